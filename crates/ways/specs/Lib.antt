@@ -1,0 +1,6 @@
+pub mod Sheet
+pub mod Input
+pub mod Refusals
+pub mod Nodes
+pub mod Judged
+pub mod View
