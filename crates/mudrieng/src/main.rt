@@ -120,3 +120,6 @@ fn accepted(job: &Job) -> Result<Sheet, Refusal>
         (None, None) => Err(Refusal::Line(0)),
     }
 }
+
+#[cfg(test)]
+mod tests;

@@ -9,8 +9,11 @@ use lib.ListN.{length, getD, drop}
 use Rattle.std.proofs.shelf.Lists.{length-drop, getD-append-right, getD-drop}
 use Rattle.std.proofs.shelf.Tests.{le-leb}
 use Rattle.std.specs.declared.option.Option.the-variants.{Some}
+use Rattle.ways.proofs.Agrees.{agrees}
+use Rattle.ways.specs.Judged.{judged}
 use Rattle.ways.specs.Nodes.{node-at, node-from, node-ok, size, way-at, way-from, numbers-of}
 use Rattle.ways.specs.Sheet.{scrap, can, worth-of}
+use Rattle.ways.specs.declared.Verdict.the-variants.{Can}
 use Rattle.ways.specs.declared.checked.Pieces.{Pieces}
 use Rattle.ways.specs.declared.checked.Sheet.{Sheet}
 use Rattle.ways.specs.declared.input.Piece.{Piece}
@@ -54,3 +57,7 @@ module _ (wide high blade : ℕ) (ps : List Piece) (room room₁ : List ℕ) (lo
         able = ap (can blade ps wide high) here;
         worth = ap (worth-of ps) here;
       }
+
+-- what is left is judged as it was answered
+pub left-judged : (wide high blade : ℕ) (ps : List Piece) (room : List ℕ) (n v : ℕ) (room₁ : List ℕ) → Leaves wide high blade ps room n v room₁ → judged blade ps wide high room₁ ≡ Can v
+left-judged wide high blade ps room n v room₁ k = agrees room₁ n (k .later) blade ps wide high v (k .some) (omega (arith, k .within, k .as-long)) (k .able) (k .worth)

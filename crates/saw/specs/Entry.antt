@@ -7,6 +7,7 @@ use lib.ListN.{length, getD}
 use Rattle.std.specs.declared.option.Option.{Option}
 use Rattle.std.specs.declared.option.Option.the-variants.{Some, None}
 use Rattle.ways.specs.Input.{pieces-in}
+use Rattle.ways.specs.Judged.{judged}
 use Rattle.ways.specs.Nodes.{node-ok, size, way-at}
 use Rattle.ways.specs.Refusals.{number-of, refusal}
 use Rattle.ways.specs.Sheet.{can, worth-of}
@@ -15,6 +16,7 @@ use Rattle.ways.specs.declared.checked.Pieces.{Pieces}
 use Rattle.ways.specs.declared.checked.Sheet.{Sheet}
 use Rattle.ways.specs.declared.input.Piece.{Piece}
 use Rattle.ways.specs.declared.refusals.Refusal.{Refusal}
+use Rattle.ways.specs.declared.Verdict.the-variants.{Can}
 use Rattle.saw.specs.declared.Done.{Done}
 use Rattle.saw.specs.declared.Done.the-variants.{Sawn, Refused}
 
@@ -34,6 +36,11 @@ abbrev pub Done-says : Option Refusal → (wide high blade : ℕ) → List Piece
 Done-says (Some e) w h b ps room r room₁ = (r ≡ Refused (number-of e)) × (room₁ ≡ room)
 Done-says None w h b ps room (Sawn n v) room₁ = Leaves w h b ps room n v room₁
 Done-says None w h b ps room (Refused k) room₁ = ⊥
+
+-- what is left is judged to be a way that can be sawn, of the worth that is answered
+abbrev pub Judge-agrees : (wide high blade : ℕ) → List Piece → Done → (room₁ : List ℕ) → Type 0
+Judge-agrees w h b ps (Sawn n v) room₁ = judged b ps w h room₁ ≡ Can v
+Judge-agrees w h b ps (Refused k) room₁ = Unit {0}
 
 -- a sheet and pieces as they were asked for, with nothing to be refused
 pub record Accepted (wide high blade : ℕ) (numbers : List ℕ) (room : ℕ) (r : Sheet × Pieces) : Type 0 where

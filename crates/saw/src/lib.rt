@@ -5,7 +5,7 @@ ghost use Prim.Native.Nat.{_≤_};
 ghost use lib.ListN.{length, drop};
 ghost use Rattle.std.specs.Results.{Cases};
 ghost use Rattle.std.specs.declared.option.Option.the-variants.{Some};
-ghost use Rattle.saw.specs.Entry.{Done-says, Accepted};
+ghost use Rattle.saw.specs.Entry.{Accepted, Done-says, Judge-agrees};
 ghost use Rattle.ways.specs.Input.{pieces-in};
 ghost use Rattle.ways.specs.Nodes.{numbers-of};
 ghost use Rattle.ways.specs.Refusals.{refusal};
@@ -25,7 +25,8 @@ pub enum Done {
 // Saws a sheet with a blade for pieces of three numbers each: wide, high, worth. The way is left from the front of the room on,
 // four numbers a node.
 pub fn saw(wide: u64, high: u64, blade: u64, pieces: &[u32], room: &mut [u16]) -> Done
-    ensures { λ r. ⌜ Done-says (refusal wide high blade (now (pieces .entry)) (length (now (room .entry)))) wide high blade (pieces-in (now (pieces .entry))) (now (room .entry)) r (now (room .exit)) ⌝ }
+    ensures done { λ r. ⌜ Done-says (refusal wide high blade (now (pieces .entry)) (length (now (room .entry)))) wide high blade (pieces-in (now (pieces .entry))) (now (room .entry)) r (now (room .exit)) ⌝ }
+    ensures judged { λ r. ⌜ Judge-agrees wide high blade (pieces-in (now (pieces .entry))) r (now (room .exit)) ⌝ }
 {
     match accept(wide, high, blade, pieces, room.len()) {
         Err(refusal) => Done::Refused(refusal.number()),

@@ -5,3 +5,4 @@ pub mod Fits
 pub mod Judging
 pub mod Named
 pub mod Taken
+pub mod Agrees

@@ -10,11 +10,11 @@ pub unreachable-requires : need.unreachable-requires
 unreachable-requires c κs =
     let none : refusal (c .wide .result) (c .high .result) (c .blade .result) (c .args .pieces .now) (length (c .args .room .now)) ≡ None =
     rw (c .wide .ensures, c .high .ensures, c .blade .ensures) (taken _ _ _ _ _ (c .pre .sheet) (c .pre .pieces) (c .pre .room)) in
-    rw none at (c .in-Refused .ensures tt)
+    rw none at (c .in-Refused .ensures tt .done)
 
 pub add-way-requires : need.add-way-requires
 add-way-requires c κs =
     let none : refusal (c .wide .result) (c .high .result) (c .blade .result) (c .args .pieces .now) (length (c .args .room .now)) ≡ None =
     rw (c .wide .ensures, c .high .ensures, c .blade .ensures) (taken _ _ _ _ _ (c .pre .sheet) (c .pre .pieces) (c .pre .room)) in
-    let left = rw none at (c .in-Sawn .ensures tt) in
+    let left = rw none at (c .in-Sawn .ensures tt .done) in
     record { later = left .later; within = left .some; inner = omega arith }

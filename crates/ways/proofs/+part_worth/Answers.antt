@@ -1,11 +1,13 @@
-use Prim.Native.Nat.{_+_, _-_}
-use mathlib.Core.Path.{refl}
+use Prim.Native.Nat.{ℕ, _+_, _-_}
+use mathlib.Core.Path.{_≡_, refl}
 use native.Mathlib.Omega.{arith}
 use Rattle.ways.specs.Sheet.{cut-ok}
 use Rattle.ways.specs.View.{pieces-of}
 use Rattle.ways.proofs.Cuts.{cut-ok-parts}
-use Rattle.ways.proofs.Judging.{cond-none, cond-some, found-missing, found-unsound, found-scrap, found-take, found-small, split-upright, split-level, split-refused, split-first, split-second, split-sum}
+use Rattle.ways.proofs.Judging.{Split, cond-none, cond-some, found-missing, found-unsound, found-scrap, found-take, found-small}
+use Rattle.ways.proofs.Judging.{split-upright, split-level, split-refused, split-first, split-second, split-sum}
 use Rattle.ways.proofs.+part_worth.Needs as need
+use Rattle.ways.proofs.+part_worth.Needs.{In-Upright, In-Level}
 
 pub returns-in-Break-node : need.returns-in-Break-node
 returns-in-Break-node t c = rw (c .from-residual .ensures) (found-missing _ _ _ _ _ _ (c .in-Break-node .ensures tt))
@@ -18,13 +20,24 @@ returns-in-Scrap t c = found-scrap _ _ _ _ _ _ _ (c .in-Continue-node .ensures t
 
 pub returns-in-Take : need.returns-in-Take
 returns-in-Take t c =
-    let found = found-take (c .args .blade) (pieces-of (c .args .pieces .now)) (c .args .numbers .now) (c .args .i) (c .args .wide) (c .args .high) _ (c .in-Continue-node .ensures tt) (c .in-Take .piece) (c .in-Take .is) in
+    let found =
+    found-take (c .args .blade) (pieces-of (c .args .pieces .now)) (c .args .numbers .now) (c .args .i) (c .args .wide) (c .args .high) _
+    (c .in-Continue-node .ensures tt) (c .in-Take .piece) (c .in-Take .is) in
     λ l le. rw (c .fitting .ensures, c .as-slice .ensures) (found l le)
+
+-- a part that is sawn upright, with so much left of it beyond the blade
+upright-split :
+    (t : ℕ) (c : In-Upright t) (rest : ℕ) → rest ≡ c .args .wide - (c .in-Upright .from-left + c .args .blade) →
+    Split (c .args .blade) (pieces-of (c .args .pieces .now)) (c .args .numbers .now) (cut-ok (c .args .blade) (c .args .wide) (c .in-Upright .from-left))
+    (c .args .i) (c .args .wide) (c .args .high) (c .in-Upright .left) (c .in-Upright .from-left) (c .args .high) (c .in-Upright .right) rest (c .args .high)
+upright-split t c rest left =
+    split-upright (c .args .blade) (pieces-of (c .args .pieces .now)) (c .args .numbers .now) (c .args .i) (c .args .wide) (c .args .high) _
+    (c .in-Continue-node .ensures tt) (c .if-not-names-later .ensures tt) (c .in-Upright .from-left) (c .in-Upright .left) (c .in-Upright .right) rest (c .in-Upright .is) left
 
 pub returns-in-Break-rest : need.returns-in-Break-rest
 returns-in-Break-rest t c =
-    let split = split-upright (c .args .blade) (pieces-of (c .args .pieces .now)) (c .args .numbers .now) (c .args .i) (c .args .wide) (c .args .high) _ (c .in-Continue-node .ensures tt) (c .if-not-names-later .ensures tt) _ _ _ (c .args .wide - (c .in-Upright .from-left + c .args .blade)) (c .in-Upright .is) refl in
-    rw (c .from-residual-in-Break-rest .ensures) (split-refused _ _ _ _ _ _ _ _ _ _ _ _ _ split (cond-none (cut-ok (c .args .blade) (c .args .wide) (c .in-Upright .from-left)) (c .args .wide - (c .in-Upright .from-left + c .args .blade)) (c .in-Break-rest .ensures tt)))
+    let no-cut = cond-none (cut-ok (c .args .blade) (c .args .wide) (c .in-Upright .from-left)) (c .args .wide - (c .in-Upright .from-left + c .args .blade)) (c .in-Break-rest .ensures tt) in
+    rw (c .from-residual-in-Break-rest .ensures) (split-refused _ _ _ _ _ _ _ _ _ _ _ _ _ (upright-split t (need.at·returns-in-Break-rest t c .In-Upright) _ refl) no-cut)
 
 pub part-worth-requires : need.part-worth-requires
 part-worth-requires t c κs =
@@ -32,8 +45,9 @@ part-worth-requires t c κs =
 
 pub returns-in-Break-first : need.returns-in-Break-first
 returns-in-Break-first t c =
-    let split = split-upright (c .args .blade) (pieces-of (c .args .pieces .now)) (c .args .numbers .now) (c .args .i) (c .args .wide) (c .args .high) _ (c .in-Continue-node .ensures tt) (c .if-not-names-later .ensures tt) _ _ _ _ (c .in-Upright .is) (cond-some _ _ _ (c .in-Continue-rest .ensures tt) .1) in
-    rw (c .from-residual-in-Break-first .ensures) (split-first _ _ _ _ _ _ _ _ _ _ _ _ _ split (c .in-Break-first .ensures tt))
+    let told = cond-some _ _ _ (c .in-Continue-rest .ensures tt) in
+    rw (c .from-residual-in-Break-first .ensures)
+    (split-first _ _ _ _ _ _ _ _ _ _ _ _ _ (upright-split t (need.at·returns-in-Break-first t c .In-Upright) _ (told .1)) (c .in-Break-first .ensures tt))
 
 pub part-worth-requires-in-Upright : need.part-worth-requires-in-Upright
 part-worth-requires-in-Upright t c κs =
@@ -42,8 +56,9 @@ part-worth-requires-in-Upright t c κs =
 
 pub returns-in-Break-second : need.returns-in-Break-second
 returns-in-Break-second t c =
-    let split = split-upright (c .args .blade) (pieces-of (c .args .pieces .now)) (c .args .numbers .now) (c .args .i) (c .args .wide) (c .args .high) _ (c .in-Continue-node .ensures tt) (c .if-not-names-later .ensures tt) _ _ _ _ (c .in-Upright .is) (cond-some _ _ _ (c .in-Continue-rest .ensures tt) .1) in
-    rw (c .from-residual-in-Break-second .ensures) (split-second _ _ _ _ _ _ _ _ _ _ _ _ _ split _ (c .in-Continue-first .ensures tt) (c .in-Break-second .ensures tt))
+    let told = cond-some _ _ _ (c .in-Continue-rest .ensures tt) in
+    rw (c .from-residual-in-Break-second .ensures)
+    (split-second _ _ _ _ _ _ _ _ _ _ _ _ _ (upright-split t (need.at·returns-in-Break-second t c .In-Upright) _ (told .1)) _ (c .in-Continue-first .ensures tt) (c .in-Break-second .ensures tt))
 
 pub add-result : need.add-result
 add-result t c =
@@ -57,13 +72,21 @@ add-result t c =
 pub returns-in-Continue-second : need.returns-in-Continue-second
 returns-in-Continue-second t c =
     let told = cond-some _ _ _ (c .in-Continue-rest .ensures tt) in
-    let split = split-upright (c .args .blade) (pieces-of (c .args .pieces .now)) (c .args .numbers .now) (c .args .i) (c .args .wide) (c .args .high) _ (c .in-Continue-node .ensures tt) (c .if-not-names-later .ensures tt) _ _ _ _ (c .in-Upright .is) (told .1) in
-    split-sum _ _ _ _ _ _ _ _ _ _ _ _ _ split _ _ (told .0) (c .in-Continue-first .ensures tt) (c .in-Continue-second .ensures tt)
+    split-sum _ _ _ _ _ _ _ _ _ _ _ _ _ (upright-split t (need.at·returns-in-Continue-second t c .In-Upright) _ (told .1)) _ _ (told .0) (c .in-Continue-first .ensures tt) (c .in-Continue-second .ensures tt)
+
+-- a part that is sawn level, with so much left of it beyond the blade
+level-split :
+    (t : ℕ) (c : In-Level t) (rest : ℕ) → rest ≡ c .args .high - (c .in-Level .from-below + c .args .blade) →
+    Split (c .args .blade) (pieces-of (c .args .pieces .now)) (c .args .numbers .now) (cut-ok (c .args .blade) (c .args .high) (c .in-Level .from-below))
+    (c .args .i) (c .args .wide) (c .args .high) (c .in-Level .lower) (c .args .wide) (c .in-Level .from-below) (c .in-Level .upper) (c .args .wide) rest
+level-split t c rest left =
+    split-level (c .args .blade) (pieces-of (c .args .pieces .now)) (c .args .numbers .now) (c .args .i) (c .args .wide) (c .args .high) _
+    (c .in-Continue-node .ensures tt) (c .if-not-names-later .ensures tt) (c .in-Level .from-below) (c .in-Level .lower) (c .in-Level .upper) rest (c .in-Level .is) left
 
 pub returns-in-Break-rest-2 : need.returns-in-Break-rest-2
 returns-in-Break-rest-2 t c =
-    let split = split-level (c .args .blade) (pieces-of (c .args .pieces .now)) (c .args .numbers .now) (c .args .i) (c .args .wide) (c .args .high) _ (c .in-Continue-node .ensures tt) (c .if-not-names-later .ensures tt) _ _ _ (c .args .high - (c .in-Level .from-below + c .args .blade)) (c .in-Level .is) refl in
-    rw (c .from-residual-in-Break-rest-2 .ensures) (split-refused _ _ _ _ _ _ _ _ _ _ _ _ _ split (cond-none (cut-ok (c .args .blade) (c .args .high) (c .in-Level .from-below)) (c .args .high - (c .in-Level .from-below + c .args .blade)) (c .in-Break-rest-2 .ensures tt)))
+    let no-cut = cond-none (cut-ok (c .args .blade) (c .args .high) (c .in-Level .from-below)) (c .args .high - (c .in-Level .from-below + c .args .blade)) (c .in-Break-rest-2 .ensures tt) in
+    rw (c .from-residual-in-Break-rest-2 .ensures) (split-refused _ _ _ _ _ _ _ _ _ _ _ _ _ (level-split t (need.at·returns-in-Break-rest-2 t c .In-Level) _ refl) no-cut)
 
 pub part-worth-requires-in-Level : need.part-worth-requires-in-Level
 part-worth-requires-in-Level t c κs =
@@ -71,8 +94,9 @@ part-worth-requires-in-Level t c κs =
 
 pub returns-in-Break-first-2 : need.returns-in-Break-first-2
 returns-in-Break-first-2 t c =
-    let split = split-level (c .args .blade) (pieces-of (c .args .pieces .now)) (c .args .numbers .now) (c .args .i) (c .args .wide) (c .args .high) _ (c .in-Continue-node .ensures tt) (c .if-not-names-later .ensures tt) _ _ _ _ (c .in-Level .is) (cond-some _ _ _ (c .in-Continue-rest-2 .ensures tt) .1) in
-    rw (c .from-residual-in-Break-first-2 .ensures) (split-first _ _ _ _ _ _ _ _ _ _ _ _ _ split (c .in-Break-first-2 .ensures tt))
+    let told = cond-some _ _ _ (c .in-Continue-rest-2 .ensures tt) in
+    rw (c .from-residual-in-Break-first-2 .ensures)
+    (split-first _ _ _ _ _ _ _ _ _ _ _ _ _ (level-split t (need.at·returns-in-Break-first-2 t c .In-Level) _ (told .1)) (c .in-Break-first-2 .ensures tt))
 
 pub part-worth-requires-in-Level-2 : need.part-worth-requires-in-Level-2
 part-worth-requires-in-Level-2 t c κs =
@@ -81,8 +105,9 @@ part-worth-requires-in-Level-2 t c κs =
 
 pub returns-in-Break-second-2 : need.returns-in-Break-second-2
 returns-in-Break-second-2 t c =
-    let split = split-level (c .args .blade) (pieces-of (c .args .pieces .now)) (c .args .numbers .now) (c .args .i) (c .args .wide) (c .args .high) _ (c .in-Continue-node .ensures tt) (c .if-not-names-later .ensures tt) _ _ _ _ (c .in-Level .is) (cond-some _ _ _ (c .in-Continue-rest-2 .ensures tt) .1) in
-    rw (c .from-residual-in-Break-second-2 .ensures) (split-second _ _ _ _ _ _ _ _ _ _ _ _ _ split _ (c .in-Continue-first-2 .ensures tt) (c .in-Break-second-2 .ensures tt))
+    let told = cond-some _ _ _ (c .in-Continue-rest-2 .ensures tt) in
+    rw (c .from-residual-in-Break-second-2 .ensures)
+    (split-second _ _ _ _ _ _ _ _ _ _ _ _ _ (level-split t (need.at·returns-in-Break-second-2 t c .In-Level) _ (told .1)) _ (c .in-Continue-first-2 .ensures tt) (c .in-Break-second-2 .ensures tt))
 
 pub add-result-in-Level : need.add-result-in-Level
 add-result-in-Level t c =
@@ -96,5 +121,4 @@ add-result-in-Level t c =
 pub returns-in-Continue-second-2 : need.returns-in-Continue-second-2
 returns-in-Continue-second-2 t c =
     let told = cond-some _ _ _ (c .in-Continue-rest-2 .ensures tt) in
-    let split = split-level (c .args .blade) (pieces-of (c .args .pieces .now)) (c .args .numbers .now) (c .args .i) (c .args .wide) (c .args .high) _ (c .in-Continue-node .ensures tt) (c .if-not-names-later .ensures tt) _ _ _ _ (c .in-Level .is) (told .1) in
-    split-sum _ _ _ _ _ _ _ _ _ _ _ _ _ split _ _ (told .0) (c .in-Continue-first-2 .ensures tt) (c .in-Continue-second-2 .ensures tt)
+    split-sum _ _ _ _ _ _ _ _ _ _ _ _ _ (level-split t (need.at·returns-in-Continue-second-2 t c .In-Level) _ (told .1)) _ _ (told .0) (c .in-Continue-first-2 .ensures tt) (c .in-Continue-second-2 .ensures tt)
