@@ -1,4 +1,6 @@
 // A job, read line by line.
+ghost use mathlib.Core.Path.{_≡_};
+ghost use Prim.Native.Nat.{min};
 use crate::faults::Fault;
 use crate::faults::FaultFromAlloc;
 use crate::faults::FaultFromRefused;
@@ -136,6 +138,8 @@ fn number(word: &str) -> Option<u64> {
 }
 
 // The number, or the largest of 32 bits: no sheet is so wide or high, and no piece may be worth so much.
-fn narrowed(n: u64) -> u32 {
+fn narrowed(n: u64) -> u32
+    ensures { λ r. ⌜ r ≡ min n 4294967295 ⌝ }
+{
     n.min(u64::from(u32::MAX)) as u32
 }

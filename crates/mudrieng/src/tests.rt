@@ -7,15 +7,27 @@ use std::test::*;
 fn first_number_first(rt: LibcRuntime) -> Result<(), Fail> {
     let rows: [(&str, Option<(u64, usize)>); 22] = [
         ("sheet 10 6 blade 1", None),
-        ("\n# a board\r\n\tsheet  10 6\tblade 1 \r\n\npiece a 4 3 12\npiece a 4 3 12\n", None),
-        ("sheet 007 60 blade 60\npiece x 99999999999999999999 1 100000\n", None),
+        (
+            "\n# a board\r\n\tsheet  10 6\tblade 1 \r\n\npiece a 4 3 12\npiece a 4 3 12\n",
+            None,
+        ),
+        (
+            "sheet 007 60 blade 60\npiece x 99999999999999999999 1 100000\n",
+            None,
+        ),
         ("sheet 0 6 blade 1\n", Some((1, 0))),
         ("sheet 99999999999999999999999999 6 blade 1\n", Some((1, 0))),
         ("sheet 10 61 blade 61\n", Some((1, 1))),
         ("sheet 10 6 blade 61\n", Some((1, 2))),
-        ("sheet 10 6 blade 1\npiece a 4 3 12\npiece b 0 3 12\n", Some((2, 1))),
+        (
+            "sheet 10 6 blade 1\npiece a 4 3 12\npiece b 0 3 12\n",
+            Some((2, 1)),
+        ),
         ("sheet 10 6 blade 1\npiece a 4 3 100001\n", Some((2, 0))),
-        ("sheet 10 6 blade 1\npiece a 4 3 99999999999999999999\n", Some((2, 0))),
+        (
+            "sheet 10 6 blade 1\npiece a 4 3 99999999999999999999\n",
+            Some((2, 0)),
+        ),
         ("", Some((4, 0))),
         ("# nothing\n\n", Some((4, 2))),
         ("sheet 10 6 blade 1\nsheet 10 6 blade 1\n", Some((4, 1))),

@@ -20,7 +20,9 @@ use Rattle.ways.specs.declared.Verdict.the-variants.{Can}
 use Rattle.saw.specs.declared.Done.{Done}
 use Rattle.saw.specs.declared.Done.the-variants.{Sawn, Refused}
 
--- what is left behind where n nodes and a worth of v are answered: the nodes stand at the front of the room, and the rest is as it was; each names later ones among them only; they are just the nodes of the way that the first one says; it can be sawn, and is worth v
+-- what is left behind where n nodes and a worth of v are answered: the nodes stand at the front of the room, and the rest is
+-- as it was; each names later ones among them only; they are just the nodes of the way that the first one says; it can be
+-- sawn, and is worth v
 pub record Leaves (wide high blade : ℕ) (ps : List Piece) (room : List ℕ) (n v : ℕ) (room₁ : List ℕ) : Type 0 where
   pub some : 1 ≤ n
   pub within : 4 * n ≤ length room

@@ -30,6 +30,7 @@ pub fn saw(wide: u64, high: u64, blade: u64, pieces: &[u32], room: &mut [u16]) -
 {
     match accept(wide, high, blade, pieces, room.len()) {
         Err(refusal) => Done::Refused(refusal.number()),
+        // No cut is looked for yet: the whole sheet is scrap.
         Ok(_) => {
             put_node(room, Node::Scrap);
             Done::Sawn(1, 0)

@@ -9,11 +9,12 @@ use Rattle.ways.specs.declared.input.Piece.{Piece}
 unfoldable pub piece-ok : Piece → Bool
 piece-ok p = leb 1 (p .wide) && (leb 1 (p .high) && leb (p .worth) 100000)
 
+-- all of them are so
 unfoldable pub pieces-ok : List Piece → Bool
 pieces-ok [] = true
 pieces-ok (p ∷ ps) = piece-ok p && pieces-ok ps
 
--- the pieces that numbers stand for: wide, high, worth, and so on
+-- the pieces that numbers stand for: the width, the height and the worth of each
 unfoldable pub pieces-in : List ℕ → List Piece
 pieces-in [] = []
 pieces-in (a ∷ []) = []

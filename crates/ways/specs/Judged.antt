@@ -13,7 +13,7 @@ use Rattle.ways.specs.declared.nodes.Node.the-variants.{Scrap, Take, Upright, 
 use Rattle.ways.specs.declared.Verdict.{Verdict}
 use Rattle.ways.specs.declared.Verdict.the-variants.{Can, Cannot}
 
--- both nodes that a cut names are so
+-- there is a node, and those that it names are so
 unfoldable pub both-parts : (ℕ → Bool) → Option Node → Bool
 both-parts ok None = false
 both-parts ok (Some Scrap) = true
@@ -21,7 +21,7 @@ both-parts ok (Some (Take k)) = true
 both-parts ok (Some (Upright x a b)) = ok a && ok b
 both-parts ok (Some (Level y a b)) = ok a && ok b
 
--- every node that is reached from node i on, so many levels deep, is as it should be among n
+-- every node that is reached from node i on, within so many levels, names later ones among the first n only
 unfoldable pub sound : List ℕ → (n levels i : ℕ) → Bool
 sound xs n zero i = false
 sound xs n (suc l) i = node-ok xs n i && both-parts (sound xs n l) (node-at xs i)
@@ -30,10 +30,12 @@ sound xs n (suc l) i = node-ok xs n i && both-parts (sound xs n l) (node-at xs i
 unfoldable pub part-worth : (blade : ℕ) → List Piece → List ℕ → (n levels i wide high : ℕ) → Option ℕ
 part-worth blade ps xs n l i w h = cond (sound xs n l i && can blade ps w h (way-at xs l i)) (Some (worth-of ps (way-at xs l i))) None
 
+-- the answer for the whole sheet
 abbrev pub verdict : Option ℕ → Verdict
 verdict (Some v) = Can v
 verdict None = Cannot
 
--- the first node is the way. Where each node names later ones only, as many levels as there are nodes reach all of it
+-- what is said of a list of numbers: its first node is the way. Where each node names later ones only, as many levels as
+-- there are nodes reach all of it
 unfoldable pub judged : (blade : ℕ) → List Piece → (wide high : ℕ) → List ℕ → Verdict
 judged blade ps w h xs = verdict (part-worth blade ps xs (length xs / 4) (length xs / 4) 0 w h)

@@ -10,7 +10,8 @@ use Rattle.ways.specs.Sheet.{Way, scrap, take, upright, level}
 use Rattle.ways.specs.declared.nodes.Node.{Node}
 use Rattle.ways.specs.declared.nodes.Node.the-variants.{Scrap, Take, Upright, Level}
 
--- the four numbers of a node: 0 scrap; 1 and a piece's number; 2, so many from the left, and the nodes of the left part and the right; 3, so many from below, and the nodes of the lower part and the upper
+-- the four numbers of a node: 0 scrap; 1 and a piece's number; 2, so many from the left, and the nodes of the left part and
+-- the right; 3, so many from below, and the nodes of the lower part and the upper
 abbrev pub numbers-of : Node → List ℕ
 numbers-of Scrap = 0 ∷ 0 ∷ 0 ∷ 0 ∷ []
 numbers-of (Take k) = 1 ∷ k ∷ 0 ∷ 0 ∷ []
@@ -43,6 +44,7 @@ way-at xs (suc l) i = way-from (way-at xs l) (node-at xs i)
 abbrev pub comes-later : (n i j : ℕ) → Bool
 comes-later n i j = ltb i j && ltb j n
 
+-- node i names only such nodes
 abbrev pub names-later : (n i : ℕ) → Option Node → Bool
 names-later n i None = false
 names-later n i (Some Scrap) = true

@@ -6,7 +6,9 @@ use Prim.Native.Nat.{ℕ, zero, suc, _+_, _-_, _≤_}
 use lib.Dec.{leb, eqb}
 use Rattle.ways.specs.declared.input.Piece.{Piece}
 
--- what is done with a sheet (a guillotine cutting pattern): it is scrap (waste); it is the piece of that number (an item), just as it is; or it is sawn through, upright so many from the left (a vertical cut) into the left part and the right, or level so many from below (a horizontal cut) into the lower part and the upper
+-- what is done with a sheet (a guillotine cutting pattern): it is scrap (waste); it is the piece of that number (an item),
+-- just as it is; or it is sawn through, upright so many from the left (a vertical cut) into the left part and the right,
+-- or level so many from below (a horizontal cut) into the lower part and the upper
 pub data Way : Type 0 where
   scrap : Way
   take : (piece : ℕ) → Way
@@ -25,7 +27,8 @@ worth-at [] k = 0
 worth-at (p ∷ ps) zero = p .worth
 worth-at (p ∷ ps) (suc k) = worth-at ps k
 
--- a blade that takes so much (the kerf) may saw through a side at x: something is left on the first side, the blade goes in as a whole, and where it takes nothing something is left on the other side too
+-- a blade that takes so much (the kerf) may saw through a side at x: something is left on the first side, the blade goes in
+-- as a whole, and where it takes nothing something is left on the other side too
 unfoldable pub cut-ok : (blade side x : ℕ) → Bool
 cut-ok blade side x = leb 1 x && (leb (x + blade) side && (leb 1 blade || leb 1 (side - (x + blade))))
 
