@@ -63,6 +63,3 @@ fn put_node(room: &mut [u16], node: Node)
 {
     room[0..4].copy_from_slice(&node.numbers());
 }
-
-#[cfg(test)]
-mod tests;

@@ -19,6 +19,8 @@ pub use checked::Sheet;
 pub use input::Piece;
 pub use nodes::Node;
 pub use refusals::Refusal;
+pub use refusals::RefusalDebug;
+pub use refusals::RefusalPartialEq;
 
 // What is said of nodes: they are a way that can be sawn, with its worth, or they aren't.
 #[derive(Clone, Copy, Debug, PartialEq)]
@@ -149,6 +151,3 @@ fn later(node: u16, i: usize, count: usize) -> bool
 {
     i < node as usize && (node as usize) < count
 }
-
-#[cfg(test)]
-mod tests;

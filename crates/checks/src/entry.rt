@@ -1,7 +1,8 @@
-use crate::Done;
-use crate::DoneDebug;
-use crate::DonePartialEq;
-use crate::saw;
+// What the entry refuses, and what it leaves.
+use saw::Done;
+use saw::DoneDebug;
+use saw::DonePartialEq;
+use saw::saw;
 use std::test::*;
 
 const GOOD: &[u32] = &[4, 3, 12];

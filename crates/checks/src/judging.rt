@@ -1,12 +1,13 @@
-use crate::Pieces;
-use crate::Sheet;
-use crate::Verdict;
-use crate::VerdictDebug;
-use crate::VerdictPartialEq;
-use crate::judge;
-use crate::refusals::RefusalDebug;
+// Ways judged, and sheets and pieces refused.
 use std::alloc::Global;
 use std::test::*;
+use ways::Pieces;
+use ways::RefusalDebug;
+use ways::Sheet;
+use ways::Verdict;
+use ways::VerdictDebug;
+use ways::VerdictPartialEq;
+use ways::judge;
 
 // A sheet and its blade, pieces, and nodes.
 #[derive(Clone, Copy)]
