@@ -15,8 +15,9 @@ pub(crate) struct Job {
     // Three for each piece: wide, high, worth.
     pub pieces: Vec<u32>,
     pub names: Vec<String>,
-    // The first line that can't be read; the number of lines where none is for the sheet.
+    // The first line that can't be read, and how many lines there are.
     pub unread: Option<usize>,
+    pub lines: usize,
 }
 
 #[derive(Clone, Copy)]
@@ -47,16 +48,13 @@ pub(crate) fn read_job(heap: Global, text: &str) -> Result<Job, Fault> {
         pieces: Vec::new(heap),
         names: Vec::new(heap),
         unread: None,
+        lines: 0,
     };
-    let mut count = 0usize;
     for line in text.lines() {
         if !take_line(heap, &mut job, line)? && job.unread.is_none() {
-            job.unread = Some(count);
+            job.unread = Some(job.lines);
         }
-        count = count.saturating_add(1);
-    }
-    if job.sheet.is_none() && job.unread.is_none() {
-        job.unread = Some(count);
+        job.lines = job.lines.saturating_add(1);
     }
     Ok(job)
 }

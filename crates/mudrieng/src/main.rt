@@ -114,10 +114,11 @@ fn accepted(job: &Job) -> Result<Sheet, Refusal>
         None => None,
     };
     let _pieces = Pieces::from_numbers(job.pieces.as_slice())?;
-    match (sheet, job.unread) {
-        (_, Some(line)) => Err(Refusal::Line(line)),
-        (Some(sheet), None) => Ok(sheet),
-        (None, None) => Err(Refusal::Line(0)),
+    match (job.unread, sheet) {
+        (Some(line), _) => Err(Refusal::Line(line)),
+        (None, Some(sheet)) => Ok(sheet),
+        // No line is for the sheet.
+        (None, None) => Err(Refusal::Line(job.lines)),
     }
 }
 

@@ -16,6 +16,7 @@ use Rattle.ways.specs.declared.Verdict.the-variants.{Can}
 use Rattle.ways.specs.Sheet.{Way, upright, level, can, worth-of}
 use Rattle.ways.specs.Nodes.{names-later, node-at, node-ok, way-at, way-from}
 use Rattle.ways.specs.Judged.{both-parts, sound, part-worth, judged}
+use Rattle.ways.proofs.Named.{both-later}
 
 -- what holds of the nodes that node i names holds of what it says
 module _ (n i : ℕ) where
@@ -27,11 +28,13 @@ module _ (n i : ℕ) where
   sound-node m le (Some Scrap) e f h = refl
   sound-node m le (Some (Take k)) e f h = refl
   sound-node m le (Some (Upright x a b)) e f h =
-      let fa : f a ≡ true = h a (grind (arith, tells)) (grind (arith, tells)) in
-      let fb : f b ≡ true = h b (grind (arith, tells)) (grind (arith, tells)) in rw (fa, fb) (grind (arith, tells))
+      let l = both-later n i a b e in
+      let fa : f a ≡ true = h a (l .first-after) (l .first-below) in
+      let fb : f b ≡ true = h b (l .second-after) (l .second-below) in rw (fa, fb) (grind (arith, tells))
   sound-node m le (Some (Level y a b)) e f h =
-      let fa : f a ≡ true = h a (grind (arith, tells)) (grind (arith, tells)) in
-      let fb : f b ≡ true = h b (grind (arith, tells)) (grind (arith, tells)) in rw (fa, fb) (grind (arith, tells))
+      let l = both-later n i a b e in
+      let fa : f a ≡ true = h a (l .first-after) (l .first-below) in
+      let fb : f b ≡ true = h b (l .second-after) (l .second-below) in rw (fa, fb) (grind (arith, tells))
 
   same-node : (o : Option Node) → names-later n i o ≡ true → (f g : ℕ → Way) → ((j : ℕ) → i < j → j < n → f j ≡ g j) → way-from f o ≡ way-from g o
   unfolding way-from
@@ -39,11 +42,13 @@ module _ (n i : ℕ) where
   same-node (Some Scrap) e f g h = refl
   same-node (Some (Take k)) e f g h = refl
   same-node (Some (Upright x a b)) e f g h =
-      let pa = h a (grind (arith, tells)) (grind (arith, tells)) in
-      let pb = h b (grind (arith, tells)) (grind (arith, tells)) in ap (λ z. upright x z (f b)) pa ∙ ap (λ z. upright x (g a) z) pb
+      let l = both-later n i a b e in
+      let pa = h a (l .first-after) (l .first-below) in
+      let pb = h b (l .second-after) (l .second-below) in ap (λ z. upright x z (f b)) pa ∙ ap (λ z. upright x (g a) z) pb
   same-node (Some (Level y a b)) e f g h =
-      let pa = h a (grind (arith, tells)) (grind (arith, tells)) in
-      let pb = h b (grind (arith, tells)) (grind (arith, tells)) in ap (λ z. level y z (f b)) pa ∙ ap (λ z. level y (g a) z) pb
+      let l = both-later n i a b e in
+      let pa = h a (l .first-after) (l .first-below) in
+      let pb = h b (l .second-after) (l .second-below) in ap (λ z. level y z (f b)) pa ∙ ap (λ z. level y (g a) z) pb
 
 module _ (xs : List ℕ) (n : ℕ) (ok : (i : ℕ) → i < n → node-ok xs n i ≡ true) where
   all-sound : (m l i : ℕ) → n ≤ m → i < n → n ≤ l + i → sound xs m l i ≡ true

@@ -20,6 +20,7 @@ use Rattle.ways.specs.Input.{pieces-ok}
 use Rattle.ways.specs.Nodes.{node-at, way-from, way-at, names-later, node-ok}
 use Rattle.ways.specs.Judged.{both-parts, sound, part-worth}
 use Rattle.ways.proofs.Fits.{worth-bound}
+use Rattle.ways.proofs.Named.{both-later}
 
 -- both parts together, where both can be sawn
 abbrev pub both : Option ℕ → Option ℕ → Option ℕ
@@ -105,8 +106,8 @@ module _ (blade : ℕ) (ps : List Piece) (xs : List ℕ) where
         let ok : true ≡ names-later n i (Some (Upright x a b)) = rw is at later in
         record {
           here = there xs i node (sym read);
-          first-later = grind (arith, tells);
-          second-later = grind (arith, tells);
+          first-later = both-later n i a b (sym ok) .first-after;
+          second-later = both-later n i a b (sym ok) .second-after;
           splits = λ l. rw (left, ← read, is, ← ok) (regroup (cut-ok blade w x) (sound xs n l a) (can blade ps x h (way-at xs l a)) (sound xs n l b) (can blade ps (w - (x + blade)) h (way-at xs l b)) (worth-of ps (way-at xs l a)) (worth-of ps (way-at xs l b)));
         }
 
@@ -116,8 +117,8 @@ module _ (blade : ℕ) (ps : List Piece) (xs : List ℕ) where
         let ok : true ≡ names-later n i (Some (Level x a b)) = rw is at later in
         record {
           here = there xs i node (sym read);
-          first-later = grind (arith, tells);
-          second-later = grind (arith, tells);
+          first-later = both-later n i a b (sym ok) .first-after;
+          second-later = both-later n i a b (sym ok) .second-after;
           splits = λ l. rw (left, ← read, is, ← ok) (regroup (cut-ok blade h x) (sound xs n l a) (can blade ps w x (way-at xs l a)) (sound xs n l b) (can blade ps w (h - (x + blade)) (way-at xs l b)) (worth-of ps (way-at xs l a)) (worth-of ps (way-at xs l b)));
         }
 
