@@ -6,3 +6,7 @@ pub mod Judging
 pub mod Named
 pub mod Taken
 pub mod Agrees
+pub mod Search
+pub mod Problem
+pub mod Sawing
+pub mod Few

@@ -1,0 +1,6 @@
+pub mod Filled
+pub mod Larger
+pub mod Quarter
+pub mod Mirrors
+pub mod Nodes
+pub mod Known

@@ -1,0 +1,4 @@
+pub mod Reckoned
+pub mod Table
+pub mod Cuts
+pub mod Pieces
