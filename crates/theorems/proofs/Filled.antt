@@ -1,12 +1,12 @@
 -- Pieces fill no more than the sheet. Assumes nothing.
 use mathlib.Core.Path.{_≡_}
-use mathlib.Core.Bool.{true, _&&_}
+use mathlib.Core.Bool.{true}
 use mathlib.Core.List.{List, [], _∷_}
 use Prim.Native.Nat.{ℕ, zero, suc, _+_, _-_, _*_, _≤_}
 use native.Mathlib.Omega.{arith}
 use lib.Dec.{eqb}
 use Rattle.std.proofs.shelf.Tests.{and-parts, eqb-true}
-use Rattle.ways.specs.Sheet.{Way, scrap, take, upright, level, piece-fits, can}
+use Rattle.ways.specs.Sheet.{scrap, take, upright, level, piece-fits, can}
 use Rattle.ways.specs.declared.input.Piece.{Piece}
 use Rattle.ways.proofs.Cuts.{upright-parts, level-parts}
 use Rattle.ways.proofs.Fits.{upright-area, level-area}

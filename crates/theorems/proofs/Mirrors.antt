@@ -1,14 +1,11 @@
 -- A cut that leaves something on both sides, and its mirror. Assumes nothing.
 use mathlib.Core.Path.{_≡_, refl}
-use mathlib.Core.Bool.{true}
-use mathlib.Core.List.{List}
-use mathlib.Core.Logic.{_⊎_, inl, inr}
-use Prim.Native.Nat.{ℕ, _+_, _-_, _≤_, _<_}
+use mathlib.Core.Logic.{inl, inr}
+use Prim.Native.Nat.{ℕ, _+_, _-_, _≤_}
 use native.Mathlib.Nat.{add-comm}
 use native.Mathlib.Omega.{arith}
 use Rattle.std.proofs.shelf.Tests.{cases-lt}
-use Rattle.ways.specs.Sheet.{Way, upright, level, can, worth-of}
-use Rattle.ways.specs.declared.input.Piece.{Piece}
+use Rattle.ways.specs.Sheet.{worth-of}
 use Rattle.ways.proofs.Cuts.{Cut, upright-parts, upright-from, level-parts, level-from}
 use Rattle.theorems.specs.Statements.{Half-of-uprights, Half-of-levels}
 

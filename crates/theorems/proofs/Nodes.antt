@@ -1,6 +1,6 @@
 -- A way of a sheet has few nodes. Assumes nothing.
 use mathlib.Core.Path.{_≡_}
-use Prim.Native.Nat.{ℕ, max}
+use Prim.Native.Nat.{max}
 use native.Mathlib.Omega.{arith}
 use Rattle.ways.proofs.Few.{few}
 use Rattle.theorems.specs.Statements.{Few-nodes}

@@ -5,7 +5,7 @@ use mathlib.Core.List.{List, _++_}
 use mathlib.Core.Logic.{_⊎_}
 use Prim.Native.Nat.{ℕ, _+_, _*_, _-_, _≤_}
 use Rattle.ways.specs.Nodes.{size}
-use Rattle.ways.specs.Sheet.{Way, upright, level, can, worth-of, Best}
+use Rattle.ways.specs.Sheet.{Way, upright, level, cut-ok, can, worth-of, Best}
 use Rattle.ways.specs.declared.input.Piece.{Piece}
 use Rattle.theorems.specs.Areas.{area-of}
 use Rattle.theorems.specs.Turning.{turned, turned-way}
@@ -18,15 +18,21 @@ Has-best = (blade : ℕ) (ps : List Piece) (w h : ℕ) → (a : Way) × Best bla
 abbrev pub No-more-than-there-is : Type 0
 No-more-than-there-is = (blade : ℕ) (ps : List Piece) (w h : ℕ) (a : Way) → can blade ps w h a ≡ true → area-of ps a ≤ w * h
 
--- a side is as long as another, or longer by the blade and one more
+-- a side is as long as another, or so long that the other can be sawn off it
 abbrev pub As-long : (blade side longer : ℕ) → Type 0
-As-long blade side longer = (longer ≡ side) ⊎ (side + (blade + 1) ≤ longer)
+As-long blade side longer = (longer ≡ side) ⊎ (cut-ok blade longer side ≡ true)
 
--- a sheet that is larger so is worth no less
+-- a sheet whose sides are so is worth no less
 abbrev pub Larger-sheet : Type 0
 Larger-sheet =
-    (blade : ℕ) (ps : List Piece) (w h v g : ℕ) (a b : Way) → 1 ≤ w → 1 ≤ h → As-long blade w v → As-long blade h g → Best blade ps w h a → Best blade ps v g b →
+    (blade : ℕ) (ps : List Piece) (w h v g : ℕ) (a b : Way) → As-long blade w v → As-long blade h g → Best blade ps w h a → Best blade ps v g b →
     worth-of ps a ≤ worth-of ps b
+
+-- nor is one that is larger each way by the blade and one more
+abbrev pub Larger-by-the-blade : Type 0
+Larger-by-the-blade =
+    (blade : ℕ) (ps : List Piece) (w h v g : ℕ) (a b : Way) → 1 ≤ w → 1 ≤ h → w + (blade + 1) ≤ v → h + (blade + 1) ≤ g → Best blade ps w h a →
+    Best blade ps v g b → worth-of ps a ≤ worth-of ps b
 
 -- nor is one with more sorts of pieces
 abbrev pub More-sorts : Type 0

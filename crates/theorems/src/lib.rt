@@ -1,7 +1,7 @@
 // What holds of all ways of sawing, each the contract of a function that has nothing else to do: a caller may cite it, and
 // without its proof the crate fails.
 ghost use Rattle.theorems.specs.Rows.{Two-doors, Just-it, A-strip-off};
-ghost use Rattle.theorems.specs.Statements.{Has-best, No-more-than-there-is, Larger-sheet, More-sorts, Turned, Turned-best, Half-of-uprights, Half-of-levels, Few-nodes};
+ghost use Rattle.theorems.specs.Statements.{Has-best, No-more-than-there-is, Larger-sheet, Larger-by-the-blade, More-sorts, Turned, Turned-best, Half-of-uprights, Half-of-levels, Few-nodes};
 
 pub fn every_sheet_has_a_best_way()
     ensures { λ _. ⌜ Has-best ⌝ }
@@ -12,7 +12,8 @@ pub fn pieces_fill_no_more_than_the_sheet()
 {}
 
 pub fn larger_sheet_is_worth_no_less()
-    ensures { λ _. ⌜ Larger-sheet ⌝ }
+    ensures off { λ _. ⌜ Larger-sheet ⌝ }
+    ensures blade { λ _. ⌜ Larger-by-the-blade ⌝ }
 {}
 
 pub fn more_sorts_are_worth_no_less()

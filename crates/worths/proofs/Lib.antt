@@ -1,4 +1,5 @@
 pub mod Cells
+pub mod Says
 pub mod Halves
 pub mod Parts
 pub mod Filling

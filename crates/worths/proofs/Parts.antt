@@ -2,13 +2,13 @@
 use mathlib.Core.Path.{_≡_, refl, sym, _∙_}
 use mathlib.Core.Bool.{true}
 use mathlib.Core.List.{List}
-use mathlib.Core.Logic.{_⊎_, inl, inr, ⊎-elim}
+use mathlib.Core.Logic.{_⊎_, ⊎-elim}
 use Prim.Native.Nat.{ℕ, _+_, _*_, _-_, _≤_, _<_}
 use native.Mathlib.Nat.{mul-le-mul, zero-mul, mul-zero}
 use native.Mathlib.Omega.{arith}
 use Rattle.ways.specs.declared.input.Piece.{Piece}
 use Rattle.ways.specs.Sheet.{Way, scrap, take, upright, level, can}
-use Rattle.ways.proofs.Cuts.{Cut, cut-ok-parts, cut-ok-from, upright-parts, upright-from, level-parts, level-from}
+use Rattle.ways.proofs.Cuts.{cut-ok-parts, cut-ok-from, upright-parts, upright-from, level-parts, level-from}
 use Rattle.ways.proofs.Fits.{upright-area, level-area}
 use Rattle.worths.specs.Cuts.{Best-cut}
 use Rattle.worths.specs.Reckoned.{Most, Adds-up}

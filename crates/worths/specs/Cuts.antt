@@ -9,12 +9,12 @@ use Rattle.worths.specs.Table.{cell}
 use Rattle.worths.specs.declared.Orientation.{Orientation}
 use Rattle.worths.specs.declared.Orientation.the-variants.{Upright, Level}
 
--- the side that a cut parts
+-- the side that a cut shortens
 abbrev pub side-of : Orientation → (wide high : ℕ) → ℕ
 side-of Upright w h = w
 side-of Level w h = h
 
--- what the table says of a part whose parted side is x long
+-- what the table says of a part whose shortened side is x long
 abbrev pub part-of : Orientation → List ℕ → (wide high x : ℕ) → ℕ
 part-of Upright xs w h x = cell xs x h
 part-of Level xs w h x = cell xs w x

@@ -6,7 +6,7 @@ ghost use Rattle.ways.specs.View.{pieces-of};
 ghost use Rattle.worths.specs.Cuts.{side-of, part-of, Best-cut};
 ghost use Rattle.worths.specs.Pieces.{Worth-is, Worths-are};
 ghost use Rattle.worths.specs.Reckoned.{Most};
-ghost use Rattle.worths.specs.Table.{cell, value-at, Values-are};
+ghost use Rattle.worths.specs.Table.{place-of, cell, value-at, Right, Values-are};
 
 mod pieces;
 mod uncut;
@@ -16,10 +16,10 @@ pub use uncut::Uncut;
 use ways::Pieces;
 use ways::Sheet;
 
-// The highest sheet, and so many heights stand in the table for each width.
+// How many heights the table has for each width.
 const HEIGHTS: usize = 60;
 
-// As many numbers as the largest sheet has parts of different sizes.
+// How many numbers it has: 60 widths of 60 heights.
 const CELLS: usize = 3600;
 
 // What a sheet, and each that is no wider and no higher, is worth.
@@ -29,7 +29,7 @@ pub struct Values {
     cells: [u32; CELLS],
 }
 
-// How a cut goes through: upright it parts the width, level the height.
+// An upright cut shortens the width, a level one the height.
 #[derive(Clone, Copy)]
 enum Orientation {
     Upright,
@@ -54,7 +54,7 @@ pub fn best_worths(sheet: Sheet, pieces: &Pieces) -> Values
 // The same, whatever it is that a part is worth as it lies.
 pub fn values_of<U: Uncut>(sheet: Sheet, uncut: &U) -> Values
     ensures sheet { λ r. ⌜ r .sheet ≡ sheet ⌝ }
-    ensures values { λ r. ⌜ Values-are (reckoned (now (uncut .entry)) (sheet .blade)) (sheet .blade) (pieces (now (uncut .entry))) (sheet .wide) (sheet .high) r ⌝ }
+    ensures values { λ r. ⌜ Values-are (reckoned (now (uncut .entry))) (pieces (now (uncut .entry))) r ⌝ }
 {
     let mut values = Values {
         sheet,
@@ -62,26 +62,26 @@ pub fn values_of<U: Uncut>(sheet: Sheet, uncut: &U) -> Values
     };
     for wide in 1..sheet.wide() + 1 {
         for high in 1..sheet.high() + 1 {
-            values.cells[(wide - 1) * HEIGHTS + (high - 1)] = part_worth(
-                &values,
-                uncut,
-                wide,
-                high,
-            );
+            let worth = part_worth(&values, uncut, wide, high);
+            values.cells[place(wide, high)] = worth;
         }
     }
     values
 }
 
 impl Values {
-    // What a part so wide and so high is worth, if it is no wider and no higher than the sheet.
+    // What a part so wide and so high is worth, if it is no wider and no higher than the sheet. An empty one is worth nothing.
     pub fn worth(&self, wide: usize, high: usize) -> Option<u32>
         ensures { λ r. ⌜ r ≡ value-at (now (self .entry)) wide high ⌝ }
     {
-        if wide <= self.sheet.wide() && high <= self.sheet.high() {
-            Some(self.cell(wide, high))
-        } else {
+        let widest = self.sheet.wide();
+        let highest = self.sheet.high();
+        if wide > widest || high > highest {
             None
+        } else if wide == 0 || high == 0 {
+            Some(0)
+        } else {
+            Some(self.cell(wide, high))
         }
     }
 
@@ -92,21 +92,19 @@ impl Values {
         self.cell(self.sheet.wide(), self.sheet.high())
     }
 
-    // An empty part has no place in the table, and is worth nothing.
     fn cell(&self, wide: usize, high: usize) -> u32
-        requires { ⌜ wide ≤ 60 ⌝ ∗ ⌜ high ≤ 60 ⌝ }
+        requires wide { ⌜ 1 ≤ wide ⌝ ∗ ⌜ wide ≤ 60 ⌝ }
+        requires high { ⌜ 1 ≤ high ⌝ ∗ ⌜ high ≤ 60 ⌝ }
         ensures { λ r. ⌜ r ≡ cell (now (self .entry) .cells) wide high ⌝ }
     {
-        if wide == 0 || high == 0 {
-            0
-        } else {
-            self.cells[(wide - 1) * HEIGHTS + (high - 1)]
-        }
+        self.cells[place(wide, high)]
     }
 
-    // What is left of a part, once a cut has made the side that it parts so long, is worth.
+    // What the part is worth to which a cut shortens one side.
     fn part(&self, orientation: Orientation, wide: usize, high: usize, side: usize) -> u32
-        requires { ⌜ wide ≤ 60 ⌝ ∗ ⌜ high ≤ 60 ⌝ ∗ ⌜ side ≤ 60 ⌝ }
+        requires wide { ⌜ 1 ≤ wide ⌝ ∗ ⌜ wide ≤ 60 ⌝ }
+        requires high { ⌜ 1 ≤ high ⌝ ∗ ⌜ high ≤ 60 ⌝ }
+        requires side { ⌜ 1 ≤ side ⌝ ∗ ⌜ side ≤ 60 ⌝ }
         ensures { λ r. ⌜ r ≡ part-of orientation (now (self .entry) .cells) wide high side ⌝ }
     {
         match orientation {
@@ -118,7 +116,8 @@ impl Values {
     // The better of `before` and the best of all cuts of that orientation. A cut that leaves something on both sides is tried
     // in the nearer half only, since its mirror is worth the same; one that leaves nothing on the other side is tried by itself.
     fn best_cut(&self, orientation: Orientation, wide: usize, high: usize, before: u32) -> u32
-        requires size { ⌜ wide ≤ 60 ⌝ ∗ ⌜ high ≤ 60 ⌝ }
+        requires wide { ⌜ 1 ≤ wide ⌝ ∗ ⌜ wide ≤ 60 ⌝ }
+        requires high { ⌜ 1 ≤ high ⌝ ∗ ⌜ high ≤ 60 ⌝ }
         requires low { ⌜ ((x : ℕ) → x < side-of orientation wide high → part-of orientation (now self .cells) wide high x ≤ 360000000) ⌝ }
         ensures { λ r. ⌜ Best-cut (part-of orientation (now (self .entry) .cells) wide high) (now (self .entry) .sheet .blade) (side-of orientation wide high) before r ⌝ }
     {
@@ -142,7 +141,16 @@ impl Values {
     }
 }
 
-// The side that a cut parts.
+// Where the number for a part stands.
+fn place(wide: usize, high: usize) -> usize
+    requires wide { ⌜ 1 ≤ wide ⌝ ∗ ⌜ wide ≤ 60 ⌝ }
+    requires high { ⌜ 1 ≤ high ⌝ ∗ ⌜ high ≤ 60 ⌝ }
+    ensures { λ r. ⌜ r ≡ place-of wide high ⌝ }
+{
+    (wide - 1) * HEIGHTS + (high - 1)
+}
+
+// The side that a cut shortens.
 fn side(orientation: Orientation, wide: usize, high: usize) -> usize
     ensures { λ r. ⌜ r ≡ side-of orientation wide high ⌝ }
 {
@@ -154,9 +162,10 @@ fn side(orientation: Orientation, wide: usize, high: usize) -> usize
 
 // What a part is worth, from what smaller ones are.
 fn part_worth<U: Uncut>(values: &Values, uncut: &U, wide: usize, high: usize) -> u32
-    requires size { ⌜ wide ≤ 60 ⌝ ∗ ⌜ high ≤ 60 ⌝ }
-    requires narrower { ⌜ ((x : ℕ) → x < wide → Most (reckoned (now uncut) (now values .sheet .blade)) (now values .sheet .blade) (pieces (now uncut)) x high (cell (now values .cells) x high)) ⌝ }
-    requires lower { ⌜ ((y : ℕ) → y < high → Most (reckoned (now uncut) (now values .sheet .blade)) (now values .sheet .blade) (pieces (now uncut)) wide y (cell (now values .cells) wide y)) ⌝ }
+    requires wide { ⌜ 1 ≤ wide ⌝ ∗ ⌜ wide ≤ 60 ⌝ }
+    requires high { ⌜ 1 ≤ high ⌝ ∗ ⌜ high ≤ 60 ⌝ }
+    requires narrower { ⌜ ((x : ℕ) → x < wide → Right (reckoned (now uncut)) (pieces (now uncut)) (now values) x high) ⌝ }
+    requires lower { ⌜ ((y : ℕ) → y < high → Right (reckoned (now uncut)) (pieces (now uncut)) (now values) wide y) ⌝ }
     ensures { λ r. ⌜ Most (reckoned (now (uncut .entry)) (now (values .entry) .sheet .blade)) (now (values .entry) .sheet .blade) (pieces (now (uncut .entry))) wide high r ⌝ }
 {
     let whole = uncut.uncut_worth(wide, high);

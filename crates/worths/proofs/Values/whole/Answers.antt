@@ -1,7 +1,5 @@
-use mathlib.Core.Path.{sym, ap, _∙_}
 use native.Mathlib.Omega.{arith}
-use Rattle.std.specs.declared.option.Option.the-variants.{Some}
-use Rattle.worths.proofs.Cells.{value-there}
+use Rattle.worths.proofs.Says.{value-there}
 use Rattle.worths.proofs.Values.whole.Needs as need
 
 pub returns : need.returns
