@@ -28,13 +28,13 @@ Larger-sheet =
     (blade : ℕ) (ps : List Piece) (w h v g : ℕ) (a b : Way) → As-long blade w v → As-long blade h g → Best blade ps w h a → Best blade ps v g b →
     worth-of ps a ≤ worth-of ps b
 
--- nor is one that is larger each way by the blade and one more
+-- and so is one that is larger each way by the blade and one more
 abbrev pub Larger-by-the-blade : Type 0
 Larger-by-the-blade =
     (blade : ℕ) (ps : List Piece) (w h v g : ℕ) (a b : Way) → 1 ≤ w → 1 ≤ h → w + (blade + 1) ≤ v → h + (blade + 1) ≤ g → Best blade ps w h a →
     Best blade ps v g b → worth-of ps a ≤ worth-of ps b
 
--- nor is one with more sorts of pieces
+-- and so is one with more sorts of pieces
 abbrev pub More-sorts : Type 0
 More-sorts = (blade : ℕ) (ps qs : List Piece) (w h : ℕ) (a b : Way) → Best blade ps w h a → Best blade (ps ++ qs) w h b → worth-of ps a ≤ worth-of (ps ++ qs) b
 

@@ -17,6 +17,7 @@ pub trait Uncut {
     // The most that a part so wide and so high is worth as it lies.
     ghost leaf: { Self → ℕ → ℕ → ℕ };
 
+    // Worths add up over a cut, and scrap and pieces that fit are worth no more than `leaf`.
     law adds: { (u : Self) (blade : ℕ) → Adds-up (reckoned u blade) (leaf u) blade (pieces u) };
 
     // So an empty part is worth nothing, and no sum of worths is too large.
