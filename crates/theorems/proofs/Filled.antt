@@ -1,15 +1,14 @@
 -- Pieces fill no more than the sheet. Assumes nothing.
-use mathlib.Core.Path.{_≡_}
+use mathlib.Core.Path.{_≡_, refl}
 use mathlib.Core.Bool.{true}
 use mathlib.Core.List.{List, [], _∷_}
-use Prim.Native.Nat.{ℕ, zero, suc, _+_, _-_, _*_, _≤_}
+use Prim.Native.Nat.{ℕ, zero, suc, _*_, _≤_}
 use native.Mathlib.Omega.{arith}
 use lib.Dec.{eqb}
 use Rattle.std.proofs.shelf.Tests.{and-parts, eqb-true}
-use Rattle.ways.specs.Sheet.{scrap, take, upright, level, piece-fits, can}
+use Rattle.ways.specs.Sheet.{piece-fits}
 use Rattle.ways.specs.declared.input.Piece.{Piece}
-use Rattle.ways.proofs.Cuts.{upright-parts, level-parts}
-use Rattle.ways.proofs.Fits.{upright-area, level-area}
+use Rattle.ways.proofs.Within.{Adds, within, squares-split}
 use Rattle.theorems.specs.Areas.{area-at, area-of}
 use Rattle.theorems.specs.Statements.{No-more-than-there-is}
 
@@ -21,13 +20,13 @@ fills (p ∷ ps) zero w h e =
     let q = and-parts (eqb (p .wide) w) (eqb (p .high) h) e in rw (eqb-true (p .wide) w (q .0), eqb-true (p .high) h (q .1)) (omega arith)
 fills (p ∷ ps) (suc k) w h e = fills ps k w h e
 
+areas-add : (blade : ℕ) (ps : List Piece) → Adds blade (λ w h. area-of ps)
+unfolding area-of
+areas-add blade ps = record { uprights = λ w h x a b. refl; levels = λ w h y a b. refl }
+
 pub no-more-than-there-is : No-more-than-there-is
-unfolding can area-of
-no-more-than-there-is blade ps w h scrap e = omega arith
-no-more-than-there-is blade ps w h (take k) e = fills ps k w h e
-no-more-than-there-is blade ps w h (upright x a b) e =
-    let p = upright-parts blade ps w h x a b e in
-    omega (arith, no-more-than-there-is blade ps x h a (p .1), no-more-than-there-is blade ps (w - (x + blade)) h b (p .2), upright-area blade w h x (p .0))
-no-more-than-there-is blade ps w h (level y a b) e =
-    let p = level-parts blade ps w h y a b e in
-    omega (arith, no-more-than-there-is blade ps w y a (p .1), no-more-than-there-is blade ps w (h - (y + blade)) b (p .2), level-area blade w h y (p .0))
+unfolding area-of
+no-more-than-there-is blade ps w h a e =
+    let filled = within blade ps (λ w h. area-of ps) (λ w h. 1 * (w * h)) (areas-add blade ps) (squares-split blade 1) (λ w h. omega arith)
+    (λ w h k e. omega (arith, fills ps k w h e)) w h a e in
+    omega arith

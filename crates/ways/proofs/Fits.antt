@@ -2,17 +2,17 @@
 use mathlib.Core.Path.{_≡_, refl}
 use mathlib.Core.Bool.{true, false, _&&_}
 use mathlib.Core.List.{List, [], _∷_}
-use Prim.Native.Nat.{ℕ, zero, suc, _+_, _-_, _*_, _≤_, _<_}
-use native.Mathlib.Nat.{add-mul, mul-add, mul-le-mul, mul-le-mul-right, mul-le-mul-left}
+use Prim.Native.Nat.{ℕ, zero, suc, _*_, _≤_, _<_}
+use native.Mathlib.Nat.{mul-le-mul}
 use native.Mathlib.Omega.{arith}
 use lib.Dec.{eqb}
 use lib.ListN.{length, getD}
 use Rattle.std.proofs.shelf.Tests.{false≢true, and-parts, eqb-true}
-use Rattle.ways.specs.Sheet.{Way, scrap, take, upright, level, piece-fits, worth-at, can, worth-of}
+use Rattle.ways.specs.Sheet.{Way, piece-fits, worth-at, can, worth-of}
 use Rattle.ways.specs.declared.input.Piece.{Piece}
 use Rattle.ways.specs.Input.{piece-ok, pieces-ok}
 use Rattle.ways.proofs.Allowed.{piece-ok-parts}
-use Rattle.ways.proofs.Cuts.{Cut, upright-parts, level-parts}
+use Rattle.ways.proofs.Within.{Adds, within, squares-split}
 
 -- what a read past the end would give
 abbrev pub unused : Piece
@@ -48,21 +48,12 @@ fits-ok (p ∷ ps) zero w h ok e =
     (omega arith, omega arith, o .2)
 fits-ok (p ∷ ps) (suc k) w h ok e = fits-ok ps k w h (and-parts (piece-ok p) (pieces-ok ps) ok .1) e
 
--- the two parts of a cut have no more squares than the whole
-pub upright-area : (blade w h x : ℕ) → Cut blade w x → x * h + (w - (x + blade)) * h ≤ w * h
-upright-area blade w h x c = rw (← add-mul) (mul-le-mul-right h (omega arith))
-
-pub level-area : (blade w h y : ℕ) → Cut blade h y → w * y + w * (h - (y + blade)) ≤ w * h
-level-area blade w h y c = rw (← mul-add) (mul-le-mul-left w (omega arith))
+worths-add : (blade : ℕ) (ps : List Piece) → Adds blade (λ w h. worth-of ps)
+unfolding worth-of
+worths-add blade ps = record { uprights = λ w h x a b. refl; levels = λ w h y a b. refl }
 
 pub worth-bound : (blade : ℕ) (ps : List Piece) → pieces-ok ps ≡ true → (w h : ℕ) (a : Way) → can blade ps w h a ≡ true → worth-of ps a ≤ 100000 * (w * h)
-unfolding can worth-of
-worth-bound blade ps ok w h scrap e = omega arith
-worth-bound blade ps ok w h (take k) e =
-    let o = fits-ok ps k w h ok e in let one : 1 * 1 ≤ w * h = mul-le-mul (o .0) (o .1) in omega (arith, o .2)
-worth-bound blade ps ok w h (upright x a b) e =
-    let p = upright-parts blade ps w h x a b e in
-    omega (arith, worth-bound blade ps ok x h a (p .1), worth-bound blade ps ok (w - (x + blade)) h b (p .2), upright-area blade w h x (p .0))
-worth-bound blade ps ok w h (level y a b) e =
-    let p = level-parts blade ps w h y a b e in
-    omega (arith, worth-bound blade ps ok w y a (p .1), worth-bound blade ps ok w (h - (y + blade)) b (p .2), level-area blade w h y (p .0))
+unfolding worth-of
+worth-bound blade ps ok =
+    within blade ps (λ w h. worth-of ps) (λ w h. 100000 * (w * h)) (worths-add blade ps) (squares-split blade 100000) (λ w h. omega arith)
+    (λ w h k e. let o = fits-ok ps k w h ok e in let one : 1 * 1 ≤ w * h = mul-le-mul (o .0) (o .1) in omega (arith, o .2))

@@ -1,6 +1,7 @@
 pub mod Allowed
 pub mod Threes
 pub mod Cuts
+pub mod Within
 pub mod Fits
 pub mod Judging
 pub mod Named

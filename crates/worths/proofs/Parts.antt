@@ -9,7 +9,7 @@ use native.Mathlib.Omega.{arith}
 use Rattle.ways.specs.declared.input.Piece.{Piece}
 use Rattle.ways.specs.Sheet.{Way, scrap, take, upright, level, can}
 use Rattle.ways.proofs.Cuts.{cut-ok-parts, cut-ok-from, upright-parts, upright-from, level-parts, level-from}
-use Rattle.ways.proofs.Fits.{upright-area, level-area}
+use Rattle.ways.proofs.Within.{within, squares-split}
 use Rattle.worths.specs.Cuts.{Best-cut}
 use Rattle.worths.specs.Reckoned.{Most, Adds-up}
 
@@ -29,15 +29,9 @@ module _ (reckoned : ℕ → ℕ → Way → ℕ) (leaf : ℕ → ℕ → ℕ) (
   module _ (small : Small leaf) where
     -- and so at most so much a square however it is sawn
     bound : (w h : ℕ) (a : Way) → can blade ps w h a ≡ true → reckoned w h a ≤ 100000 * (w * h)
-    unfolding can
-    bound w h scrap e = omega (arith, adds .scraps w h, small w h)
-    bound w h (take k) e = omega (arith, adds .takes w h k e, small w h)
-    bound w h (upright x a b) e =
-        let p = upright-parts blade ps w h x a b e in
-        omega (arith, adds .uprights w h x a b, bound x h a (p .1), bound (w - (x + blade)) h b (p .2), upright-area blade w h x (p .0))
-    bound w h (level y a b) e =
-        let p = level-parts blade ps w h y a b e in
-        omega (arith, adds .levels w h y a b, bound w y a (p .1), bound w (h - (y + blade)) b (p .2), level-area blade w h y (p .0))
+    bound =
+        within blade ps reckoned (λ w h. 100000 * (w * h)) (record { uprights = adds .uprights; levels = adds .levels }) (squares-split blade 100000)
+        (λ w h. omega (arith, adds .scraps w h, small w h)) (λ w h k e. omega (arith, adds .takes w h k e, small w h))
 
     pub most-low : (w h v : ℕ) → w ≤ 60 → h ≤ 60 → Most reckoned blade ps w h v → v ≤ 360000000
     most-low w h v a b t = let squares : w * h ≤ 60 * 60 = mul-le-mul a b in omega (arith, t .worth, bound w h (t .way) (t .able))
