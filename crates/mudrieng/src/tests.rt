@@ -44,7 +44,7 @@ fn first_number_first(rt: LibcRuntime) -> Result<(), Fail> {
     ];
     for (text, expected) in rows {
         match (answer(rt.alloc(), text), expected) {
-            (Ok(lines), Ok(printed)) => check_eq(lines.as_str(), printed)?,
+            (Ok(lines), Ok(printed)) => check_eq(lines.as_str(), printed).note(text)?,
             (Err(Fault::Refused(refusal)), Err(place)) => {
                 check_eq((refusal.number(), refusal.place()), place).note(text)?
             }

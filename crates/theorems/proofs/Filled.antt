@@ -6,9 +6,10 @@ use Prim.Native.Nat.{ℕ, zero, suc, _*_, _≤_}
 use native.Mathlib.Omega.{arith}
 use lib.Dec.{eqb}
 use Rattle.std.proofs.shelf.Tests.{and-parts, eqb-true}
+use Rattle.ways.specs.Adding.{Adds}
 use Rattle.ways.specs.Sheet.{piece-fits}
 use Rattle.ways.specs.declared.input.Piece.{Piece}
-use Rattle.ways.proofs.Within.{Adds, within, squares-split}
+use Rattle.ways.proofs.Within.{within, squares-split}
 use Rattle.theorems.specs.Areas.{area-at, area-of}
 use Rattle.theorems.specs.Statements.{No-more-than-there-is}
 

@@ -5,10 +5,11 @@ use mathlib.Core.List.{List}
 use Prim.Native.Nat.{ℕ, suc, _+_, _-_, _*_, _≤_, max}
 use native.Mathlib.Nat.{add-mul, mul-add, mul-le-mul, mul-le-mul-right, mul-le-mul-left}
 use native.Mathlib.Omega.{arith}
+use Rattle.ways.specs.Adding.{Adds}
 use Rattle.ways.specs.Sheet.{Way, can}
 use Rattle.ways.specs.Nodes.{size}
 use Rattle.ways.specs.declared.input.Piece.{Piece}
-use Rattle.ways.proofs.Within.{Adds, Splits, within}
+use Rattle.ways.proofs.Within.{Splits, within}
 
 -- the squares of a sheet, where an empty side counts as one: an empty part has its node too
 abbrev pub squares : (w h : ℕ) → ℕ

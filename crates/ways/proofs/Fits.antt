@@ -8,11 +8,12 @@ use native.Mathlib.Omega.{arith}
 use lib.Dec.{eqb}
 use lib.ListN.{length, getD}
 use Rattle.std.proofs.shelf.Tests.{false≢true, and-parts, eqb-true}
+use Rattle.ways.specs.Adding.{Adds}
 use Rattle.ways.specs.Sheet.{Way, piece-fits, worth-at, can, worth-of}
 use Rattle.ways.specs.declared.input.Piece.{Piece}
 use Rattle.ways.specs.Input.{piece-ok, pieces-ok}
 use Rattle.ways.proofs.Allowed.{piece-ok-parts}
-use Rattle.ways.proofs.Within.{Adds, within, squares-split}
+use Rattle.ways.proofs.Within.{within, squares-split}
 
 -- what a read past the end would give
 abbrev pub unused : Piece
@@ -48,7 +49,7 @@ fits-ok (p ∷ ps) zero w h ok e =
     (omega arith, omega arith, o .2)
 fits-ok (p ∷ ps) (suc k) w h ok e = fits-ok ps k w h (and-parts (piece-ok p) (pieces-ok ps) ok .1) e
 
-worths-add : (blade : ℕ) (ps : List Piece) → Adds blade (λ w h. worth-of ps)
+pub worths-add : (blade : ℕ) (ps : List Piece) → Adds blade (λ w h. worth-of ps)
 unfolding worth-of
 worths-add blade ps = record { uprights = λ w h x a b. refl; levels = λ w h y a b. refl }
 

@@ -5,14 +5,10 @@ use mathlib.Core.List.{List}
 use Prim.Native.Nat.{ℕ, _+_, _-_, _*_, _≤_}
 use native.Mathlib.Nat.{add-mul, mul-add, mul-le-mul-right, mul-le-mul-left}
 use native.Mathlib.Omega.{arith}
+use Rattle.ways.specs.Adding.{Adds}
 use Rattle.ways.specs.Sheet.{Way, scrap, take, upright, level, piece-fits, can}
 use Rattle.ways.specs.declared.input.Piece.{Piece}
 use Rattle.ways.proofs.Cuts.{Cut, upright-parts, level-parts}
-
--- the value of a way of a part so wide and so high is what its two parts have together
-pub record Adds (blade : ℕ) (value : (wide high : ℕ) → Way → ℕ) : Type 0 where
-  pub uprights : (w h x : ℕ) (a b : Way) → value w h (upright x a b) ≡ value x h a + value (w - (x + blade)) h b
-  pub levels : (w h y : ℕ) (a b : Way) → value w h (level y a b) ≡ value w y a + value w (h - (y + blade)) b
 
 -- a part has at least as much room as the two parts of any cut have together
 pub record Splits (blade : ℕ) (room : (wide high : ℕ) → ℕ) : Type 0 where

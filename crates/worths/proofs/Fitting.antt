@@ -14,7 +14,7 @@ use Rattle.std.proofs.shelf.Tests.{cases-lt, cases-bool, cond-true, cond-false,
 use Rattle.ways.specs.declared.input.Piece.{Piece}
 use Rattle.ways.specs.Input.{pieces-ok}
 use Rattle.ways.specs.Sheet.{piece-fits, worth-at, worth-of}
-use Rattle.ways.proofs.Fits.{unused, fits-ok}
+use Rattle.ways.proofs.Fits.{unused, fits-ok, worths-add}
 use Rattle.worths.specs.Pieces.{fit-worth, best-fit}
 use Rattle.worths.specs.Reckoned.{Adds-up}
 
@@ -58,8 +58,7 @@ pub pieces-add-up : (blade : ℕ) (ps : List Piece) → Adds-up (λ w h. worth-o
 unfolding worth-of
 pieces-add-up blade ps =
     record {
-      uprights = λ w h x a b. refl;
-      levels = λ w h y a b. refl;
+      cuts = worths-add blade ps;
       scraps = λ w h. omega arith;
       takes = best-covers ps;
       comes = best-comes ps;

@@ -30,7 +30,7 @@ module _ (reckoned : ℕ → ℕ → Way → ℕ) (leaf : ℕ → ℕ → ℕ) (
     -- and so at most so much a square however it is sawn
     bound : (w h : ℕ) (a : Way) → can blade ps w h a ≡ true → reckoned w h a ≤ 100000 * (w * h)
     bound =
-        within blade ps reckoned (λ w h. 100000 * (w * h)) (record { uprights = adds .uprights; levels = adds .levels }) (squares-split blade 100000)
+        within blade ps reckoned (λ w h. 100000 * (w * h)) (adds .cuts) (squares-split blade 100000)
         (λ w h. omega (arith, adds .scraps w h, small w h)) (λ w h k e. omega (arith, adds .takes w h k e, small w h))
 
     pub most-low : (w h v : ℕ) → w ≤ 60 → h ≤ 60 → Most reckoned blade ps w h v → v ≤ 360000000
@@ -62,7 +62,7 @@ module _ (reckoned : ℕ → ℕ → Way → ℕ) (leaf : ℕ → ℕ → ℕ) (
         let c = cut-ok-parts blade w x (q .1) in
         let a = narrower x (c .proper) in
         let b = narrower (w - (x + blade)) (omega arith) in
-        (upright x (a .way) (b .way), upright-from blade ps w h x (a .way) (b .way) c (a .able) (b .able), omega (arith, adds .uprights w h x (a .way) (b .way), a .worth, b .worth, q .2)))
+        (upright x (a .way) (b .way), upright-from blade ps w h x (a .way) (b .way) c (a .able) (b .able), omega (arith, adds .cuts .uprights w h x (a .way) (b .way), a .worth, b .worth, q .2)))
         (best .came)
 
     got-level : (p u : ℕ) → Got w h p → Best-cut g blade h p u → Got w h u
@@ -73,7 +73,7 @@ module _ (reckoned : ℕ → ℕ → Way → ℕ) (leaf : ℕ → ℕ → ℕ) (
         let c = cut-ok-parts blade h y (q .1) in
         let a = lower y (c .proper) in
         let b = lower (h - (y + blade)) (omega arith) in
-        (level y (a .way) (b .way), level-from blade ps w h y (a .way) (b .way) c (a .able) (b .able), omega (arith, adds .levels w h y (a .way) (b .way), a .worth, b .worth, q .2)))
+        (level y (a .way) (b .way), level-from blade ps w h y (a .way) (b .way) c (a .able) (b .able), omega (arith, adds .cuts .levels w h y (a .way) (b .way), a .worth, b .worth, q .2)))
         (best .came)
 
     none-more : (p u r : ℕ) → p ≡ leaf w h → Best-cut f blade w p u → Best-cut g blade h u r → (b : Way) → can blade ps w h b ≡ true → reckoned w h b ≤ r
@@ -83,11 +83,11 @@ module _ (reckoned : ℕ → ℕ → Way → ℕ) (leaf : ℕ → ℕ → ℕ) (
     none-more p u r lies uprights levels (upright x a b) e =
         let q = upright-parts blade ps w h x a b e in
         let c = q .0 in
-        omega (arith, adds .uprights w h x a b, narrower x (c .proper) .tops a (q .1), narrower (w - (x + blade)) (omega arith) .tops b (q .2), uprights .most x (cut-ok-from blade w x c), levels .least)
+        omega (arith, adds .cuts .uprights w h x a b, narrower x (c .proper) .tops a (q .1), narrower (w - (x + blade)) (omega arith) .tops b (q .2), uprights .most x (cut-ok-from blade w x c), levels .least)
     none-more p u r lies uprights levels (level y a b) e =
         let q = level-parts blade ps w h y a b e in
         let c = q .0 in
-        omega (arith, adds .levels w h y a b, lower y (c .proper) .tops a (q .1), lower (h - (y + blade)) (omega arith) .tops b (q .2), levels .most y (cut-ok-from blade h y c))
+        omega (arith, adds .cuts .levels w h y a b, lower y (c .proper) .tops a (q .1), lower (h - (y + blade)) (omega arith) .tops b (q .2), levels .most y (cut-ok-from blade h y c))
 
     -- the best of what lies there uncut and of all cuts
     pub most-of : (p u r : ℕ) → p ≡ leaf w h → Best-cut f blade w p u → Best-cut g blade h u r → Most reckoned blade ps w h r
