@@ -1,4 +1,6 @@
 // A best way of sawing a sheet, left in the lent room; and the entry, which checks what is asked for.
+#![tactic(auto)]
+
 ghost use Rattle.std.specs.Prelude.{length};
 ghost use Rattle.best.specs.Entry.{BestWay, DoneSays, JudgeAgrees, SawnOrRefused};
 ghost use Rattle.best.specs.Wanted.{BestWorth};

@@ -1,4 +1,6 @@
 // Examples of what the crates below answer, in a crate of their own so that none is proved a second time for its tests.
+#![tactic(auto)]
+
 #[cfg(test)]
 mod entry;
 #[cfg(test)]

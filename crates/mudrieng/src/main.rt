@@ -1,4 +1,6 @@
 // Reads a job and prints what its sheet is worth, and a way to saw it.
+#![tactic(auto)]
+
 ghost use Rattle.std.specs.Prelude.{◌≡◌, ◌*◌, ◌≤◌, length, IfOk, None};
 ghost use Rattle.ways.specs.Input.{pieces_in};
 ghost use Rattle.ways.specs.Refusals.{sheet_fault, pieces_fault};

@@ -1,4 +1,6 @@
 // A way written out as nodes of four numbers each, whoever chooses what is done with each part of the sheet.
+#![tactic(auto)]
+
 ghost use Rattle.std.specs.Prelude.{◌≡◌, ℕ, ◌+◌, ◌*◌, ◌<◌, ◌≤◌, ◌++◌, length, drop};
 ghost use Rattle.nodes.specs.Chosen.{Fair};
 ghost use Rattle.nodes.specs.Written.{Leaves, Written};

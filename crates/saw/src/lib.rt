@@ -1,4 +1,6 @@
 // The entry: what is asked for is checked, and a way of sawing the sheet is left in the lent room.
+#![tactic(auto)]
+
 ghost use Rattle.std.specs.Prelude.{◌≡◌, ◌≤◌, ◌++◌, length, drop, Some, MatchResult};
 ghost use Rattle.saw.specs.Entry.{Accepted, DoneSays, JudgeAgrees};
 ghost use Rattle.ways.specs.Input.{pieces_in};

@@ -1,5 +1,7 @@
 // What holds of all ways of sawing, each the contract of a function that has nothing else to do: a caller may cite it, and
 // without its proof the crate fails.
+#![tactic(auto)]
+
 ghost use Rattle.theorems.specs.Rows.{TwoDoors, JustIt, AStripOff};
 ghost use Rattle.theorems.specs.Statements.{HasBest, NoMoreThanThereIs, LargerSheet, LargerByTheBlade, MoreSorts, Turned, TurnedBest, HalfOfUprights, HalfOfLevels, FewNodes};
 

@@ -1,4 +1,6 @@
 // Sheets, pieces and ways of sawing a sheet, and what judges a way.
+#![tactic(auto)]
+
 ghost use Rattle.std.specs.Prelude.{◌≡◌, ℕ, ◌+◌, ◌-◌, ◌/◌, ◌≤◌, length, if◌then◌else◌, Some, None};
 ghost use Rattle.ways.specs.Judged.{judged, part_worth_lem};
 ghost use Rattle.ways.specs.Nodes.{comes_later, names_later_lem};

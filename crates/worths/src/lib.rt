@@ -1,4 +1,6 @@
 // What a sheet, and each part of it, is worth at best: the exact dynamic program over widths and heights, smallest first.
+#![tactic(auto)]
+
 ghost use Rattle.std.specs.Prelude.{◌≡◌, ℕ, ◌<◌, ◌≤◌, Some};
 ghost use Rattle.ways.specs.View.{pieces_of};
 ghost use Rattle.worths.specs.Cuts.{side_of, part_of, BestCut};

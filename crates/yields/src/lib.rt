@@ -1,4 +1,6 @@
 // What a way yields: how many of each piece, and what became of the sheet's squares.
+#![tactic(auto)]
+
 ghost use Rattle.std.specs.Prelude.{◌≡◌, ℕ, ◌+◌, slice_index};
 ghost use Rattle.ways.specs.Judged.{judged};
 ghost use Rattle.ways.specs.Nodes.{way_at};

@@ -11,7 +11,7 @@ nothing_refused c = rw (c.wide.ensures, c.high.ensures, c.blade.ensures) (taken 
 pub unreachable-requires : goal.unreachable-requires
 unreachable-requires c = rw (nothing_refused (goal.at.unreachable-requires c).After-saw-done) at c.in-Refused.ensures.done
 
-pub add-way-requires : goal.add-way-requires
-add-way-requires c =
-    let left = rw (nothing_refused (goal.at.add-way-requires c).After-saw-done) at c.in-Sawn.ensures.done in
+pub add_way-requires : goal.add_way-requires
+add_way-requires c =
+    let left = rw (nothing_refused (goal.at.add_way-requires c).After-saw-done) at c.in-Sawn.ensures.done in
     record { later = left.later; within = left.some; inner = omega arith }

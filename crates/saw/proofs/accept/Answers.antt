@@ -7,15 +7,15 @@ use Rattle.saw.proofs.accept.Goals as goal
 pub returns-then-room-wide : goal.returns-then-room-wide
 unfolding room_fault
 returns-then-room-wide c =
-    let sheet = c.in-ok-sheet.ensures in
-    let pieces = c.in-ok-pieces.ensures in
+    let sheet = c.in_ok-sheet.ensures in
+    let pieces = c.in_ok-pieces.ensures in
     let less : c.args.room < 8 * (c.args.wide * c.args.high) = rw (c.wide.ensures, sheet.1, c.high.ensures, sheet.2) at c.if-room-wide.true in
     rw (sheet.0, pieces.0, lt-leb (8 * (c.args.wide * c.args.high)) c.args.room less) refl
 
 pub returns : goal.returns
 returns c =
-    let sheet = c.in-ok-sheet.ensures in
-    let pieces = c.in-ok-pieces.ensures in
+    let sheet = c.in_ok-sheet.ensures in
+    let pieces = c.in_ok-pieces.ensures in
     let enough : 8 * (c.args.wide * c.args.high) ≤ c.args.room = rw (c.wide.ensures, sheet.1, c.high.ensures, sheet.2) at c.if-room-wide.false in
     record {
       taken = taken c.args.wide c.args.high c.args.blade c.args.pieces.now c.args.room sheet.0 pieces.0 enough;

@@ -16,8 +16,8 @@ loop-high-init g c =
     let u = c.args.uncut.now in let met = g.met.U.Uncut in let t = c.loop-wide.values in let inv = c.loop-wide.invariant in
     (inv.0, inv.1, inv.2, lower_none (g.U.Uncut.reckoned u) _ _ t (met.adds u t.sheet.blade) (met.small u) _)
 
-pub part-worth-worth-requires : goal.part-worth-worth-requires
-part-worth-worth-requires g c =
+pub part_worth-worth-requires : goal.part_worth-worth-requires
+part_worth-worth-requires g c =
     let inv = c.loop-high.invariant in
     record {
       wide = (omega arith, omega arith);
@@ -28,12 +28,12 @@ part-worth-worth-requires g c =
 
 pub loop-high-preserved : goal.loop-high-preserved
 loop-high-preserved g c =
-    let r = g.U.Uncut.reckoned c.args.uncut.now in let t = c.loop-high.values in let v = c.part-worth-worth.result in let inv = c.loop-high.invariant in
+    let r = g.U.Uncut.reckoned c.args.uncut.now in let t = c.loop-high.values in let v = c.part_worth-worth.result in let inv = c.loop-high.invariant in
     rw c.place.ensures (
       inv.0,
       length-set t.cells _ v ∙ inv.1,
       narrower_kept r _ _ _ _ t v (omega arith) (omega arith) (omega arith) (omega arith) inv.2,
-      lower_more r _ c.args.sheet.high _ _ t v (omega arith) (omega arith) (omega arith) (omega arith) (omega arith) inv.3 c.part-worth-worth.ensures,
+      lower_more r _ c.args.sheet.high _ _ t v (omega arith) (omega arith) (omega arith) (omega arith) (omega arith) inv.3 c.part_worth-worth.ensures,
     )
 
 pub loop-wide-preserved : goal.loop-wide-preserved

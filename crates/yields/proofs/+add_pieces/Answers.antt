@@ -7,7 +7,7 @@ use Rattle.yields.proofs.+add_pieces.Goals as goal
 use Rattle.yields.proofs.+add_pieces.Goals.{In-Take, In-Upright, In-Level}
 
 pub unreachable-requires : goal.unreachable-requires
-unreachable-requires t c = sound_there c.args.numbers.now c.requires.0 c.args.i c.requires.1 c.in-default.ensures
+unreachable-requires t c = sound_there c.args.numbers.now c.requires.0 c.args.i c.requires.1 c.in_default.ensures
 
 pub returns-in-Scrap : goal.returns-in-Scrap
 returns-in-Scrap t c = λ l sound. added_none _ (says_scrap _ _ _ c.in-Some.ensures l c.in-Scrap.is) c.args.counts.now
@@ -31,20 +31,20 @@ upright_sawn :
     Sawn c.args.numbers.now (upright c.in-Upright.from_left) l c.args.i c.in-Upright.left c.in-Upright.right
 upright_sawn t c l sound = says_upright c.args.numbers.now c.args.i _ c.in-Some.ensures _ _ _ l c.in-Upright.is sound
 
-pub add-pieces-requires : goal.add-pieces-requires
-add-pieces-requires t c =
-    let s = upright_sawn t (goal.at.add-pieces-requires t c).In-Upright _ c.requires.1 in
+pub add_pieces-requires : goal.add_pieces-requires
+add_pieces-requires t c =
+    let s = upright_sawn t (goal.at.add_pieces-requires t c).In-Upright _ c.requires.1 in
     (omega (arith, s.later), (s.deep, s.first, room_first _ (upright_joins _) _ _ _ s.says _ c.requires.2))
 
-pub add-pieces-requires-in-Upright : goal.add-pieces-requires-in-Upright
-add-pieces-requires-in-Upright t c =
-    let s = upright_sawn t (goal.at.add-pieces-requires-in-Upright t c).In-Upright _ c.requires.1 in
-    (omega (arith, s.later), (s.deep, s.second, room_second _ (upright_joins _) _ _ _ s.says _ _ c.add-pieces.auto.counts (c.add-pieces.ensures s.deep s.first) c.requires.2))
+pub add_pieces-requires-in-Upright : goal.add_pieces-requires-in-Upright
+add_pieces-requires-in-Upright t c =
+    let s = upright_sawn t (goal.at.add_pieces-requires-in-Upright t c).In-Upright _ c.requires.1 in
+    (omega (arith, s.later), (s.deep, s.second, room_second _ (upright_joins _) _ _ _ s.says _ _ c.add_pieces.auto.counts (c.add_pieces.ensures s.deep s.first) c.requires.2))
 
 pub returns-in-Upright : goal.returns-in-Upright
 returns-in-Upright t c =
     λ l sound. let s = upright_sawn t (goal.at.returns-in-Upright t c).In-Upright l sound in
-    added_both _ (upright_joins _) _ _ _ s.says _ _ _ (c.add-pieces.ensures s.deep s.first) (c.add-pieces-in-Upright.ensures s.deep s.second)
+    added_both _ (upright_joins _) _ _ _ s.says _ _ _ (c.add_pieces.ensures s.deep s.first) (c.add_pieces-in-Upright.ensures s.deep s.second)
 
 -- a part that is sawn level, read so deep
 level_sawn :
@@ -52,17 +52,17 @@ level_sawn :
     Sawn c.args.numbers.now (level c.in-Level.from_below) l c.args.i c.in-Level.lower c.in-Level.upper
 level_sawn t c l sound = says_level c.args.numbers.now c.args.i _ c.in-Some.ensures _ _ _ l c.in-Level.is sound
 
-pub add-pieces-requires-in-Level : goal.add-pieces-requires-in-Level
-add-pieces-requires-in-Level t c =
-    let s = level_sawn t (goal.at.add-pieces-requires-in-Level t c).In-Level _ c.requires.1 in
+pub add_pieces-requires-in-Level : goal.add_pieces-requires-in-Level
+add_pieces-requires-in-Level t c =
+    let s = level_sawn t (goal.at.add_pieces-requires-in-Level t c).In-Level _ c.requires.1 in
     (omega (arith, s.later), (s.deep, s.first, room_first _ (level_joins _) _ _ _ s.says _ c.requires.2))
 
-pub add-pieces-requires-in-Level-2 : goal.add-pieces-requires-in-Level-2
-add-pieces-requires-in-Level-2 t c =
-    let s = level_sawn t (goal.at.add-pieces-requires-in-Level-2 t c).In-Level _ c.requires.1 in
-    (omega (arith, s.later), (s.deep, s.second, room_second _ (level_joins _) _ _ _ s.says _ _ c.add-pieces-in-Level.auto.counts (c.add-pieces-in-Level.ensures s.deep s.first) c.requires.2))
+pub add_pieces-requires-in-Level-2 : goal.add_pieces-requires-in-Level-2
+add_pieces-requires-in-Level-2 t c =
+    let s = level_sawn t (goal.at.add_pieces-requires-in-Level-2 t c).In-Level _ c.requires.1 in
+    (omega (arith, s.later), (s.deep, s.second, room_second _ (level_joins _) _ _ _ s.says _ _ c.add_pieces-in-Level.auto.counts (c.add_pieces-in-Level.ensures s.deep s.first) c.requires.2))
 
 pub returns-in-Level : goal.returns-in-Level
 returns-in-Level t c =
     λ l sound. let s = level_sawn t (goal.at.returns-in-Level t c).In-Level l sound in
-    added_both _ (level_joins _) _ _ _ s.says _ _ _ (c.add-pieces-in-Level.ensures s.deep s.first) (c.add-pieces-in-Level-2.ensures s.deep s.second)
+    added_both _ (level_joins _) _ _ _ s.says _ _ _ (c.add_pieces-in-Level.ensures s.deep s.first) (c.add_pieces-in-Level-2.ensures s.deep s.second)

@@ -2,8 +2,8 @@ use Rattle.std.proofs.Common.{arith}
 use Rattle.yields.proofs.Reading.{judged_can}
 use Rattle.yields.proofs.areas.Goals as goal
 
-pub part-areas-requires : goal.part-areas-requires
-part-areas-requires c =
+pub part_areas-requires : goal.part_areas-requires
+part_areas-requires c =
     record {
       small = (omega arith, (omega arith, omega arith));
       way = rw (c.blade.ensures, c.wide.ensures, c.high.ensures) (_, _, judged_can _ _ _ _ _ _ c.in-Can.ensures);
@@ -13,4 +13,4 @@ pub returns-in-Can : goal.returns-in-Can
 returns-in-Can c =
     let able = judged_can _ _ _ _ _ _ c.in-Can.ensures in
     rw (← c.in-Can.ensures, ← c.blade.ensures, ← c.wide.ensures, ← c.high.ensures)
-    (c.part-areas.ensures _ _ (rw (c.blade.ensures, c.wide.ensures, c.high.ensures) able))
+    (c.part_areas.ensures _ _ (rw (c.blade.ensures, c.wide.ensures, c.high.ensures) able))

@@ -4,12 +4,12 @@ use Rattle.yields.proofs.Reading.{judged_can}
 use Rattle.yields.proofs.Worth.{counts_are}
 use Rattle.yields.proofs.piece_counts.Goals as goal
 
-pub add-pieces-requires : goal.add-pieces-requires
-add-pieces-requires c =
+pub add_pieces-requires : goal.add_pieces-requires
+add_pieces-requires c =
     let able = judged_can _ _ _ _ _ _ c.in-Can.ensures in
     (_, able.0, room_at_first _ _ _ _ _ 16 c.args.pieces.now.ok (simp length-take (omega arith)) (omega arith) (omega arith) able.1)
 
 pub returns-in-Can : goal.returns-in-Can
 returns-in-Can c =
     let able = judged_can _ _ _ _ _ _ c.in-Can.ensures in
-    rw (← c.in-Can.ensures) (counts_are _ _ _ 16 (c.add-pieces.ensures _ able.0))
+    rw (← c.in-Can.ensures) (counts_are _ _ _ 16 (c.add_pieces.ensures _ able.0))

@@ -3,18 +3,18 @@ use Rattle.worths.specs.Cuts.{part_of}
 use Rattle.worths.proofs.Cells.{part_empty}
 use Rattle.worths.proofs.Halves.{tried_none, tried_thin, tried_whole, tried_more, tried_all}
 use Rattle.worths.proofs.Values.best_cut.Goals as goal
-use Rattle.worths.proofs.Values.best_cut.Goals.{then-may-leave-nothing, else-may-leave-nothing}
+use Rattle.worths.proofs.Values.best_cut.Goals.{then-may_leave_nothing, else-may_leave_nothing}
 
 pub returns-then-side-blade : goal.returns-then-side-blade
 returns-then-side-blade c = tried_none _ _ _ _ (omega (arith, c.side-side.ensures))
 
 pub loop-x-init : goal.loop-x-init
 loop-x-init c =
-    elim c.if-may-leave-nothing.branch [
-      | then-may-leave-nothing w ↦
+    elim c.if-may_leave_nothing.branch [
+      | then-may_leave_nothing w ↦
           tried_whole (part_of c.args.orientation c.args.self.now.cells c.args.wide c.args.high) _ _ _ w.part.result _ (part_empty _ _ _ _) (omega arith) (omega arith)
           w.part.ensures (w.best-is ∙ w.max-best.ensures)
-      | else-may-leave-nothing w ↦ rw w.best-is (tried_thin (part_of c.args.orientation c.args.self.now.cells c.args.wide c.args.high) _ _ _ (omega arith))
+      | else-may_leave_nothing w ↦ rw w.best-is (tried_thin (part_of c.args.orientation c.args.self.now.cells c.args.wide c.args.high) _ _ _ (omega arith))
     ]
 
 pub loop-x-preserved : goal.loop-x-preserved

@@ -2,6 +2,6 @@ use Rattle.std.proofs.Common.{refl, arith}
 use Rattle.ways.specs.Input.{pieces_ok}
 use Rattle.ways.proofs.checked.Pieces.none.Goals as goal
 
-pub invariant-of-result : goal.invariant-of-result
+pub invariant_of-result : goal.invariant_of-result
 unfolding pieces_ok
-invariant-of-result c = (omega arith, (refl, tt))
+invariant_of-result c = record { few = omega arith; ok = refl }

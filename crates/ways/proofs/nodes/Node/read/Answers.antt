@@ -23,6 +23,6 @@ pub returns-in-3 : goal.returns-in-3
 unfolding node_at node_from
 returns-in-3 c = grind (arith, nat_tests)
 
-pub returns-in-default : goal.returns-in-default
+pub returns-in_default : goal.returns-in_default
 unfolding node_at node_from
-returns-in-default c = grind (arith, nat_tests)
+returns-in_default c = grind (arith, nat_tests)
