@@ -5,7 +5,7 @@ use Rattle.ways.specs.Sheet.{Way, scrap, take, upright, level, can}
 use Rattle.ways.specs.declared.input.Piece.{Piece}
 use Rattle.ways.proofs.Cuts.{cut_ok_parts, cut_ok_from, upright_parts, upright_from, level_parts, level_from}
 use Rattle.worths.specs.Found.{Inside, Reaching, CutFound}
-use Rattle.worths.specs.Lying.{Lies}
+use Rattle.worths.specs.AsItLies.{Lies}
 use Rattle.worths.specs.Reckoned.{AddsUp}
 use Rattle.worths.specs.Table.{cell, ValuesAre}
 use Rattle.worths.specs.declared.finding.Cut.{Cut}

@@ -1,5 +1,5 @@
 -- A sheet that is scrap as a whole: one node, worth nothing. Assumes nothing.
-use Rattle.std.proofs.Common.{◌≡◌, ℕ, zero, suc, ◌+◌, ◌-◌, ◌*◌, ◌<◌, ◌≤◌, true, List, ◌++◌, length, get_or, drop, Some, refl, ap, ◌∙◌, mul-le-mul, arith}
+use Rattle.std.proofs.Common.{◌≡◌, ℕ, zero, suc, ◌-◌, ◌*◌, ◌<◌, ◌≤◌, true, List, ◌++◌, length, get_or, drop, Some, refl, ap, ◌∙◌, mul-le-mul, arith}
 use Rattle.std.proofs.lemmas.List.{length-drop, get_or-append_right, get_or-drop}
 use Rattle.std.proofs.lemmas.Bool.{le-leb}
 use Rattle.ways.proofs.Agrees.{agrees}

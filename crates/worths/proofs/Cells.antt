@@ -1,5 +1,5 @@
 -- Where a part stands in the table. Assumes nothing.
-use Rattle.std.proofs.Common.{◌≡◌, ℕ, zero, suc, ◌-◌, ◌<◌, ◌≤◌, ◌≢◌, ◌⊎◌, List, length, get_or, set, refl, inl, inr, arith, get_or-set_other, get_or-set_same}
+use Rattle.std.proofs.Common.{◌≡◌, ℕ, zero, suc, ◌<◌, ◌≤◌, ◌≢◌, ◌⊎◌, List, length, get_or, set, refl, inl, inr, arith, get_or-set_other, get_or-set_same}
 use Rattle.worths.specs.Cuts.{part_of}
 use Rattle.worths.specs.Table.{place_of, cell}
 use Rattle.worths.specs.declared.Orientation.{Orientation}

@@ -3,6 +3,7 @@ pub mod Says
 pub mod Halves
 pub mod Parts
 pub mod Filling
+pub mod Fitting
 pub mod Found
 pub mod Reached
-pub mod Lying
+pub mod Which

@@ -1,5 +1,5 @@
 -- What a part is worth, from what smaller parts are worth. Assumes nothing.
-use Rattle.std.proofs.Common.{◌≡◌, ℕ, ◌+◌, ◌-◌, ◌*◌, ◌<◌, ◌≤◌, true, ◌⊎◌, List, sym, refl, ◌∙◌, ⊎_elim, mul-le-mul, mul-zero, zero-mul, arith}
+use Rattle.std.proofs.Common.{◌≡◌, ℕ, ◌+◌, ◌-◌, ◌*◌, ◌<◌, ◌≤◌, true, List, sym, refl, ◌∙◌, ⊎_elim, mul-le-mul, mul-zero, zero-mul, arith}
 use Rattle.ways.specs.declared.input.Piece.{Piece}
 use Rattle.ways.specs.Sheet.{Way, scrap, take, upright, level, can}
 use Rattle.ways.proofs.Cuts.{cut_ok_parts, cut_ok_from, upright_parts, upright_from, level_parts, level_from}

@@ -1,5 +1,5 @@
 -- A cut that is looked for from the middle of a side to its beginning. Assumes nothing.
-use Rattle.std.proofs.Common.{◌≡◌, ℕ, ◌+◌, ◌-◌, ◌<◌, ◌≤◌, Some, None, inl, inr, ⊎_elim, arith}
+use Rattle.std.proofs.Common.{◌≡◌, ℕ, ◌+◌, ◌-◌, ◌<◌, ◌≤◌, Some, None, ⊎_elim, arith}
 use Rattle.std.proofs.lemmas.Bool.{cases_lt}
 use Rattle.ways.proofs.Cuts.{cut_ok_parts, cut_ok_from}
 use Rattle.worths.specs.Found.{Reaching}

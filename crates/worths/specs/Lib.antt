@@ -3,5 +3,5 @@ pub mod Table
 pub mod Cuts
 pub mod Pieces
 pub mod Found
-pub mod Lying
-pub mod Fitting
+pub mod AsItLies
+pub mod Laws

@@ -56,7 +56,7 @@ pub fn best_worths(sheet: Sheet, pieces: &Pieces) -> Values
 // The same, whatever it is that a part is worth as it lies.
 pub fn values_of<U: Uncut>(sheet: Sheet, uncut: &U) -> Values
     ensures sheet { result.sheet ≡ sheet }
-    ensures values { ValuesAre (reckoned uncut.now) (pieces uncut.now) result }
+    ensures values { ValuesAre (U.reckoned uncut.now) (U.pieces uncut.now) result }
 {
     let mut values = Values {
         sheet,
@@ -166,9 +166,9 @@ fn side(orientation: Orientation, wide: usize, high: usize) -> usize
 fn part_worth<U: Uncut>(values: &Values, uncut: &U, wide: usize, high: usize) -> u32
     requires wide { (1 ≤ wide) × (wide ≤ 60) }
     requires high { (1 ≤ high) × (high ≤ 60) }
-    requires narrower { (x : ℕ) → x < wide → Right (reckoned uncut.now) (pieces uncut.now) values.now x high }
-    requires lower { (y : ℕ) → y < high → Right (reckoned uncut.now) (pieces uncut.now) values.now wide y }
-    ensures { Most (reckoned uncut.now values.now.sheet.blade) values.now.sheet.blade (pieces uncut.now) wide high result }
+    requires narrower { (x : ℕ) → x < wide → Right (U.reckoned uncut.now) (U.pieces uncut.now) values.now x high }
+    requires lower { (y : ℕ) → y < high → Right (U.reckoned uncut.now) (U.pieces uncut.now) values.now wide y }
+    ensures { Most (U.reckoned uncut.now values.now.sheet.blade) values.now.sheet.blade (U.pieces uncut.now) wide high result }
 {
     let whole = uncut.uncut_worth(wide, high);
     let upright = values.best_cut(Orientation::Upright, wide, high, whole);

@@ -1,6 +1,6 @@
 // What lies uncut where a part isn't sawn: which piece, or scrap.
 ghost use Rattle.std.specs.Prelude.{◌≡◌, ℕ, ◌≤◌, ◌&&◌, length, ◌==◌};
-ghost use Rattle.worths.specs.Lying.{Lies, Fitting};
+ghost use Rattle.worths.specs.AsItLies.{Lies, Fitting};
 
 use crate::pieces::best_piece;
 use crate::uncut::Uncut;
@@ -10,7 +10,7 @@ use ways::{Piece, Pieces};
 pub trait Lying: Uncut {
     // The number of the piece that a part is as it lies, or none where it is scrap.
     fn lies(&self, wide: usize, high: usize) -> Option<u16>
-        ensures { (blade : ℕ) → Lies (reckoned self.now blade) (leaf self.now) (pieces self.now) wide high result };
+        ensures { (blade : ℕ) → Lies (Self.reckoned self.now blade) (Self.leaf self.now) (Self.pieces self.now) wide high result };
 }
 
 impl Lying for Pieces {

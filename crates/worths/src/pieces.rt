@@ -3,7 +3,7 @@ ghost use Rattle.std.specs.Prelude.{◌≡◌};
 ghost use Rattle.ways.specs.Sheet.{worth_of};
 ghost use Rattle.ways.specs.View.{pieces_of};
 ghost use Rattle.worths.specs.Pieces.{best_fit};
-ghost use Rattle.worths.specs.Fitting.{pieces_add_up, best_small};
+ghost use Rattle.worths.specs.Laws.{pieces_add_up, best_small};
 
 use crate::uncut::Uncut;
 use ways::{Piece, Pieces};

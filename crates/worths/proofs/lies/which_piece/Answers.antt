@@ -1,5 +1,5 @@
 use Rattle.std.proofs.Common.{sym}
-use Rattle.worths.proofs.Lying.{fits_here, one_fits}
+use Rattle.worths.proofs.Which.{fits_here, one_fits}
 use Rattle.worths.proofs.lies.which_piece.Goals as goal
 
 pub returns-then-p-best : goal.returns-then-p-best

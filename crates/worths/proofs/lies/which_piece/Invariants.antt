@@ -1,4 +1,4 @@
-use Rattle.worths.proofs.Lying.{NoneBelow}
+use Rattle.worths.proofs.Which.{NoneBelow}
 use Rattle.worths.proofs.lies.which_piece.Given as goal
 
 abbrev pub invariant-loop-k : goal.invariant-loop-k

@@ -1,5 +1,5 @@
 use Rattle.std.proofs.Common.{◌∙◌, arith}
-use Rattle.worths.specs.Fitting.{so_far_take, so_far_keep, so_far_all}
+use Rattle.worths.proofs.Fitting.{so_far_take, so_far_keep, so_far_all}
 use Rattle.worths.proofs.pieces.best_piece.Goals as goal
 use Rattle.worths.proofs.pieces.best_piece.Goals.{then-p-wide+then-p-high, else-p-wide, else-p-wide-via-then-p-wide+else-p-high, else-p-wide-via-else-p-wide}
 

@@ -1,4 +1,4 @@
-use Rattle.worths.specs.Fitting.{SoFar}
+use Rattle.worths.proofs.Fitting.{SoFar}
 use Rattle.worths.proofs.pieces.best_piece.Given as goal
 
 abbrev pub invariant-loop-p : goal.invariant-loop-p

@@ -2,8 +2,8 @@ use Rattle.std.proofs.Common.{◌≡◌, ◌+◌, ◌-◌, ◌∙◌, arith}
 use Rattle.worths.specs.Cuts.{part_of}
 use Rattle.worths.proofs.Cells.{part_empty}
 use Rattle.worths.proofs.Reached.{none_short, none_more, none_at_all, reached, reached_whole}
-use Rattle.worths.proofs.finding.Values.cut_worth.Goals as goal
-use Rattle.worths.proofs.finding.Values.cut_worth.Goals.{else-ends_in_the_blade-via-then-ends_in_the_blade+else-part_worth, else-ends_in_the_blade-via-else-ends_in_the_blade}
+use Rattle.worths.proofs.Values.cut_worth.Goals as goal
+use Rattle.worths.proofs.Values.cut_worth.Goals.{else-ends_in_the_blade-via-then-ends_in_the_blade+else-part-worth, else-ends_in_the_blade-via-else-ends_in_the_blade}
 
 pub returns-then-side-blade : goal.returns-then-side-blade
 returns-then-side-blade c = rw (← c.side-side.ensures, ← c.blade-blade.ensures) (none_short _ _ _ _ c.if-side-blade.true)
@@ -20,11 +20,11 @@ loop-x-preserved c =
     let before : c.loop-x.x - 1 + 1 ≡ c.loop-x.x = omega arith in
     none_more f _ _ _ (c.loop-x.x - 1) _ _ c.part-first.ensures c.part-second.ensures c.if-first-second.false (rw before c.loop-x.invariant)
 
-pub returns-then-part_worth : goal.returns-then-part_worth
-returns-then-part_worth c =
+pub returns-then-part-worth : goal.returns-then-part-worth
+returns-then-part-worth c =
     rw (← c.side-side.ensures, ← c.blade-blade.ensures)
     (reached_whole (part_of c.args.orientation c.args.self.now.cells c.args.wide c.args.high) _ _ _ (part_empty _ _ _ _) (omega arith) _ (omega arith) c.part.ensures
-    c.if-part_worth.true)
+    c.if-part-worth.true)
 
 pub returns : goal.returns
 returns c =
@@ -33,6 +33,6 @@ returns c =
     (λ y some half sum. c.loop-x.invariant y (omega arith) half sum)
     (λ thick whole.
     elim c.else-ends_in_the_blade.branch [
-      | else-ends_in_the_blade-via-then-ends_in_the_blade+else-part_worth w ↦ w.if-part_worth.false (w.part.ensures ∙ whole)
+      | else-ends_in_the_blade-via-then-ends_in_the_blade+else-part-worth w ↦ w.if-part-worth.false (w.part.ensures ∙ whole)
       | else-ends_in_the_blade-via-else-ends_in_the_blade w ↦ omega arith
     ]))

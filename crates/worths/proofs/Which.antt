@@ -1,12 +1,12 @@
 -- Which piece lies where a part isn't sawn. Assumes nothing.
-use Rattle.std.proofs.Common.{◌≡◌, ℕ, ◌<◌, ◌≤◌, Bool, true, false, ◌&&◌, eqb, List, [], ◌∷◌, length, get_or, Some, None, Option, sym, refl, ◌∙◌, inl, inr, arith}
+use Rattle.std.proofs.Common.{◌≡◌, ℕ, ◌<◌, ◌≤◌, Bool, true, ◌&&◌, eqb, List, length, get_or, Some, None, Option, sym, ◌∙◌, inl, inr, arith}
 use Rattle.std.proofs.lemmas.Bool.{cases_lt, false≢true}
 use Rattle.ways.specs.declared.input.Piece.{Piece}
-use Rattle.ways.specs.Sheet.{piece_fits, worth_at, worth_of}
+use Rattle.ways.specs.Sheet.{worth_of}
 use Rattle.ways.proofs.Fits.{unused, fits_at, fits_past, worth_here}
 use Rattle.worths.specs.Pieces.{best_fit}
-use Rattle.worths.specs.Lying.{Lies, Fitting}
-use Rattle.worths.specs.Fitting.{best_comes}
+use Rattle.worths.specs.AsItLies.{Lies, Fitting}
+use Rattle.worths.specs.Laws.{best_comes}
 
 -- a piece is just so wide and so high
 abbrev pub just : Piece → (w h : ℕ) → Bool

@@ -1,6 +1,6 @@
 use Rattle.std.proofs.Common.{arith}
 use Rattle.worths.proofs.Found.{value_said, cut_found, cut_beyond}
-use Rattle.worths.proofs.finding.Values.find_cut.Goals as goal
+use Rattle.worths.proofs.Values.find_cut.Goals as goal
 
 pub returns-in_err-worth : goal.returns-in_err-worth
 returns-in_err-worth c = rw c.from_residual.ensures (cut_beyond _ _ _ _ c.in_err-worth.ensures)
