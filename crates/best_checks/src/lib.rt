@@ -6,4 +6,4 @@ mod cases;
 #[cfg(test)]
 mod entry;
 #[cfg(test)]
-mod yields;
+mod yielded;

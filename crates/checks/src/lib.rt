@@ -6,4 +6,4 @@ mod entry;
 #[cfg(test)]
 mod judging;
 #[cfg(test)]
-mod worths;
+mod sheets;

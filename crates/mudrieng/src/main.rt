@@ -15,20 +15,18 @@ use jobs::{Job, read_job};
 use saw::{Done, saw};
 use shown::add_way;
 use std::alloc::{AllocError, Global};
+use std::process::ExitCode;
 use std::{env, fs, io};
 use ways::{Pieces, Refusal, Sheet};
 use worths::sheet_worth;
 
-// The program ends with status 1.
-#[derive(Drop)]
-pub struct Failed;
-
-fn main(rt: HostRuntime) -> Result<(), Failed> {
+// What keeps a job from being sawn goes to standard error, and then the program ends with status 1.
+fn main(rt: HostRuntime) -> ExitCode {
     match run(&rt) {
-        Ok(()) => Ok(()),
+        Ok(()) => ExitCode::SUCCESS,
         Err(fault) => {
             let _ = rt.eprintln(fault);
-            Err(Failed)
+            ExitCode::FAILURE
         }
     }
 }
