@@ -1,5 +1,5 @@
 -- What is left of a whole sheet, in the words of those who asked for it. Assumes nothing.
-use Rattle.std.proofs.Common.{◌≡◌, ℕ, ◌*◌, ◌≤◌, List, length, Some, None, Ok, Err, Option, Result, sym, refl, ap, ◌∙◌, subst, le_refl, arith}
+use Rattle.std.proofs.Common.{◌≡◌, ℕ, List, length, Some, None, Ok, Err, Option, Result, sym, ap, ◌∙◌, subst, le_refl, arith}
 use Rattle.nodes.specs.Written.{Leaves}
 use Rattle.nodes.proofs.Left.{leaves_so}
 use Rattle.ways.specs.Input.{pieces_in}

@@ -59,7 +59,7 @@ fn saw_checked(
 // Saws a sheet for whatever can lie uncut, and leaves a best way, as that reckons ways, from the front of the room on. A room of
 // fewer than eight numbers for each square is refused, and left as it was.
 pub fn saw_sheet<U: Lying>(sheet: Sheet, uncut: &U, room: &mut [u16]) -> Result<Plan, Refusal>
-    ensures { SawnOrRefused (room_fault sheet.wide sheet.high (length room.old)) (BestWorth (reckoned uncut.now sheet.blade) (leaf uncut.now) sheet.blade (pieces uncut.now) sheet.wide sheet.high) room.old result room.new }
+    ensures { SawnOrRefused (room_fault sheet.wide sheet.high (length room.old)) (BestWorth (U.reckoned uncut.now sheet.blade) (U.leaf uncut.now) sheet.blade (U.pieces uncut.now) sheet.wide sheet.high) room.old result room.new }
 {
     if room.len() < 8 * (sheet.wide() * sheet.high()) {
         return Err(Refusal::Room(room.len()));

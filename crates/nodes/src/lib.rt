@@ -39,10 +39,10 @@ pub trait Chooser {
 // Writes a good way of a part from the front of the room on, and answers how many nodes it has. The caller shows that the part
 // may be asked for and that there is room: only who chooses knows what that takes, so nothing here could test it.
 pub fn write_way<C: Chooser>(chooser: &C, part: C::Part, room: &mut [u16]) -> usize
-    requires ready { ready chooser.now part }
-    requires numbered { spare chooser.now part < 65536 }
-    requires enough { 4 * (1 + spare chooser.now part) ≤ length room.old }
-    ensures { Leaves (good chooser.now part) room.old result room.new }
+    requires ready { C.ready chooser.now part }
+    requires numbered { C.spare chooser.now part < 65536 }
+    requires enough { 4 * (1 + C.spare chooser.now part) ≤ length room.old }
+    ensures { Leaves (C.good chooser.now part) room.old result room.new }
 {
     write_from(chooser, part, 0, room)
 }
@@ -50,10 +50,10 @@ pub fn write_way<C: Chooser>(chooser: &C, part: C::Part, room: &mut [u16]) -> us
 // Writes a part's nodes, of which the first has number i, to the front of what is lent. What is free behind its own node is
 // lent on to the first part, and what is then free to the second.
 fn write_from<C: Chooser>(chooser: &C, part: C::Part, i: usize, room: &mut [u16]) -> usize
-    requires ready { ready chooser.now part }
-    requires numbered { i + spare chooser.now part < 65536 }
-    requires enough { 4 * (1 + spare chooser.now part) ≤ length room.old }
-    ensures { Written (good chooser.now part) (spare chooser.now part) i room.old result room.new }
+    requires ready { C.ready chooser.now part }
+    requires numbered { i + C.spare chooser.now part < 65536 }
+    requires enough { 4 * (1 + C.spare chooser.now part) ≤ length room.old }
+    ensures { Written (C.good chooser.now part) (C.spare chooser.now part) i room.old result room.new }
 {
     match chooser.choose(part) {
         Choice::Scrap => {

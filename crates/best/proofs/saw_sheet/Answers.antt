@@ -1,4 +1,4 @@
-use Rattle.std.proofs.Common.{◌≡◌, ◌*◌, ◌<◌, ◌≤◌, length, refl, arith}
+use Rattle.std.proofs.Common.{◌*◌, ◌<◌, ◌≤◌, length, refl, arith}
 use Rattle.nodes.proofs.Left.{leaves_so}
 use Rattle.best.proofs.Room.{room_enough, numbers_enough, room_short, room_long}
 use Rattle.best.proofs.Sawn.{best_worth}

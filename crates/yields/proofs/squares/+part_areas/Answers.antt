@@ -32,12 +32,12 @@ overflow_sub-rest t c = let cut = (upright_cut t c _ _ c.requires.way.2).1 in om
 pub part_areas-first-requires : goal.part_areas-first-requires
 part_areas-first-requires t c =
     let p = upright_cut t c _ _ c.requires.way.2 in
-    let cut = p.1 in (omega arith, (omega arith, (omega arith, (omega arith, (_, _, p.2)))))
+    let cut = p.1 in (omega arith, ((omega arith, (omega arith, omega arith)), (_, _, p.2)))
 
 pub part_areas-second-requires : goal.part_areas-second-requires
 part_areas-second-requires t c =
     let p = upright_cut t (goal.at.part_areas-second-requires t c).In-Upright _ _ c.requires.way.2 in
-    let cut = p.1 in (omega arith, (omega arith, (omega arith, (omega arith, (_, _, p.3)))))
+    let cut = p.1 in (omega arith, ((omega arith, (omega arith, omega arith)), (_, _, p.3)))
 
 pub with_cut-requires : goal.with_cut-requires
 with_cut-requires t c =
@@ -69,12 +69,12 @@ overflow_sub-rest-in-Level t c = let cut = (level_cut t c _ _ c.requires.way.2).
 pub part_areas-first-requires-in-Level : goal.part_areas-first-requires-in-Level
 part_areas-first-requires-in-Level t c =
     let p = level_cut t c _ _ c.requires.way.2 in
-    let cut = p.1 in (omega arith, (omega arith, (omega arith, (omega arith, (_, _, p.2)))))
+    let cut = p.1 in (omega arith, ((omega arith, (omega arith, omega arith)), (_, _, p.2)))
 
 pub part_areas-second-requires-in-Level : goal.part_areas-second-requires-in-Level
 part_areas-second-requires-in-Level t c =
     let p = level_cut t (goal.at.part_areas-second-requires-in-Level t c).In-Level _ _ c.requires.way.2 in
-    let cut = p.1 in (omega arith, (omega arith, (omega arith, (omega arith, (_, _, p.3)))))
+    let cut = p.1 in (omega arith, ((omega arith, (omega arith, omega arith)), (_, _, p.3)))
 
 pub with_cut-requires-in-Level : goal.with_cut-requires-in-Level
 with_cut-requires-in-Level t c =

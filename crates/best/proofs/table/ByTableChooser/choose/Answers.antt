@@ -1,6 +1,5 @@
-use Rattle.std.proofs.Common.{◌≡◌, arith}
+use Rattle.std.proofs.Common.{arith}
 use Rattle.ways.proofs.Cuts.{cut_ok_parts}
-use Rattle.worths.specs.Table.{cell}
 use Rattle.worths.proofs.Found.{value_said, value_missing}
 use Rattle.best.proofs.Choosing.{good_scrap, good_take, good_upright, good_level, some_cut}
 use Rattle.best.proofs.Room.{spare_upright, spare_level}
