@@ -1,6 +1,6 @@
 -- Pieces fill no more than the sheet. Assumes nothing.
 use Rattle.std.proofs.Common.{◌≡◌, ℕ, zero, suc, ◌*◌, ◌≤◌, true, eqb, List, [], ◌∷◌, refl, arith}
-use Rattle.std.proofs.lemmas.Bool.{and_parts, eqb-true}
+use Rattle.std.proofs.lemmas.Bool.{false≢true, and_parts, eqb-true}
 use Rattle.ways.specs.Adding.{Adds}
 use Rattle.ways.specs.Sheet.{piece_fits}
 use Rattle.ways.specs.declared.input.Piece.{Piece}
@@ -8,13 +8,17 @@ use Rattle.ways.proofs.Within.{within, squares_split}
 use Rattle.theorems.specs.Areas.{area_at, area_of}
 use Rattle.theorems.specs.Statements.{NoMoreThanThereIs}
 
--- a piece that fits fills the part
-fills : (ps : List Piece) (k w h : ℕ) → piece_fits ps k w h ≡ true → area_at ps k ≤ w * h
+-- a piece that fits a part is as large as the part
+pub fits_area : (ps : List Piece) (k w h : ℕ) → piece_fits ps k w h ≡ true → area_at ps k ≡ w * h
 unfolding piece_fits area_at
-fills [] k w h e = omega arith
-fills (p ∷ ps) zero w h e =
-    let q = and_parts (eqb p.wide w) (eqb p.high h) e in rw (eqb-true p.wide w q.0, eqb-true p.high h q.1) (omega arith)
-fills (p ∷ ps) (suc k) w h e = fills ps k w h e
+fits_area [] k w h e = absurd (false≢true e)
+fits_area (p ∷ ps) zero w h e =
+    let q = and_parts (eqb p.wide w) (eqb p.high h) e in rw (eqb-true p.wide w q.0, eqb-true p.high h q.1) refl
+fits_area (p ∷ ps) (suc k) w h e = fits_area ps k w h e
+
+-- so it fills no more than the part
+fills : (ps : List Piece) (k w h : ℕ) → piece_fits ps k w h ≡ true → area_at ps k ≤ w * h
+fills ps k w h e = omega (arith, fits_area ps k w h e)
 
 areas_add : (blade : ℕ) (ps : List Piece) → Adds blade (λ w h. area_of ps)
 unfolding area_of

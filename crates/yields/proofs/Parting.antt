@@ -1,9 +1,9 @@
 -- The areas of a part, from those of its parts. Assumes nothing.
-use Rattle.std.proofs.Common.{◌≡◌, ℕ, zero, suc, ◌+◌, ◌-◌, ◌*◌, ◌≤◌, true, eqb, List, [], ◌∷◌, Some, sym, refl, ◌∙◌, add-mul, mul-le-mul, mul-add, arith}
-use Rattle.std.proofs.lemmas.Bool.{false≢true, and_parts, eqb-true}
-use Rattle.theorems.specs.Areas.{area_at, area_of}
+use Rattle.std.proofs.Common.{◌≡◌, ℕ, ◌+◌, ◌-◌, ◌*◌, ◌≤◌, true, List, Some, sym, refl, ◌∙◌, add-mul, mul-le-mul, mul-add, arith}
+use Rattle.theorems.specs.Areas.{area_of}
+use Rattle.theorems.proofs.Filled.{fits_area}
 use Rattle.ways.specs.Nodes.{node_at}
-use Rattle.ways.specs.Sheet.{Way, scrap, take, upright, level, piece_fits, can}
+use Rattle.ways.specs.Sheet.{Way, scrap, take, upright, level, can}
 use Rattle.ways.specs.declared.input.Piece.{Piece}
 use Rattle.ways.specs.declared.nodes.Node.{Node}
 use Rattle.ways.specs.declared.nodes.Node.TheVariants.{Upright, Level}
@@ -12,14 +12,6 @@ use Rattle.yields.specs.Squares.{blade_area, scrap_area, AreasAre}
 use Rattle.yields.specs.Walks.{Sawable, WithCut}
 use Rattle.yields.specs.declared.squares.Areas.{Areas}
 use Rattle.yields.proofs.Reading.{Sawn, says_upright, says_level}
-
--- a piece that fits a part fills it
-fits_area : (ps : List Piece) (k w h : ℕ) → piece_fits ps k w h ≡ true → area_at ps k ≡ w * h
-unfolding piece_fits area_at
-fits_area [] k w h e = absurd (false≢true e)
-fits_area (p ∷ ps) zero w h e =
-    let q = and_parts (eqb p.wide w) (eqb p.high h) e in rw (eqb-true p.wide w q.0, eqb-true p.high h q.1) refl
-fits_area (p ∷ ps) (suc k) w h e = fits_area ps k w h e
 
 -- what is left of a part beyond a cut, the cut and the first part are the part
 squares_across : (blade side x other : ℕ) → Cut blade side x → x * other + (blade * other + (side - (x + blade)) * other) ≡ side * other
