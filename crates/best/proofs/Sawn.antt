@@ -16,9 +16,10 @@ use Rattle.worths.specs.Reckoned.{AddsUp}
 use Rattle.worths.specs.Table.{value_at, ValuesAre}
 use Rattle.worths.specs.declared.Values.{Values}
 use Rattle.worths.proofs.Found.{value_said}
-use Rattle.best.specs.Entry.{BestWay, DoneSays, JudgeAgrees, SawnOrRefused}
+use Rattle.best.specs.Entry.{BestWay, DoneSays, SawnOrRefused}
 use Rattle.best.specs.Wanted.{BestFor, BestWorth}
-use Rattle.best.specs.declared.Done.TheVariants.{Sawn}
+use Rattle.saw.specs.Entry.{JudgeAgrees}
+use Rattle.saw.specs.declared.Done.TheVariants.{Sawn}
 use Rattle.best.specs.declared.Plan.{Plan}
 use Rattle.best.proofs.Choosing.{top_worth}
 

@@ -1,16 +1,14 @@
 -- What the entry that saws a sheet answers and leaves behind. Assumes nothing: these are definitions.
 use Rattle.std.specs.Prelude.{◌≡◌, ℕ, List, Some, None, Ok, Err, Option, Result}
 use Rattle.nodes.specs.Written.{Leaves}
-use Rattle.ways.specs.Judged.{judged}
 use Rattle.ways.specs.Refusals.{number_of}
 use Rattle.ways.specs.Sheet.{Way, worth_of, Best}
 use Rattle.ways.specs.declared.input.Piece.{Piece}
 use Rattle.ways.specs.declared.refusals.Refusal.{Refusal}
-use Rattle.ways.specs.declared.Verdict.TheVariants.{Can}
 use Rattle.worths.specs.Pieces.{best_fit}
 use Rattle.best.specs.Wanted.{Thrifty}
-use Rattle.best.specs.declared.Done.{Done}
-use Rattle.best.specs.declared.Done.TheVariants.{Sawn, Refused}
+use Rattle.saw.specs.declared.Done.{Done}
+use Rattle.saw.specs.declared.Done.TheVariants.{Sawn, Refused}
 use Rattle.best.specs.declared.Plan.{Plan}
 
 -- a best way of the sheet, worth v, in which no part is sawn that is worth as much as it lies
@@ -24,11 +22,6 @@ abbrev pub DoneSays : Option Refusal → (wide high blade : ℕ) → List Piece 
 DoneSays (Some e) w h b ps room r room₁ = (r ≡ Refused (number_of e)) × (room₁ ≡ room)
 DoneSays None w h b ps room (Sawn n v) room₁ = Leaves (BestWay b ps w h v) room n room₁
 DoneSays None w h b ps room (Refused k) room₁ = ⊥
-
--- what is left is judged to be a way that can be sawn, of the worth that is answered
-abbrev pub JudgeAgrees : (wide high blade : ℕ) → List Piece → Done → (room₁ : List ℕ) → Type 0
-JudgeAgrees w h b ps (Sawn n v) room₁ = judged b ps w h room₁ ≡ Can v
-JudgeAgrees w h b ps (Refused k) room₁ = Unit {0}
 
 -- the same, where the refusal itself is answered, and of ways of whatever kind: that a way is as it is wanted, and worth v
 abbrev pub SawnOrRefused : Option Refusal → (Wanted : (v : ℕ) → Way → Type 0) → (room : List ℕ) → Result Plan Refusal → (room₁ : List ℕ) → Type 0

@@ -2,25 +2,19 @@
 #![tactic(auto)]
 
 ghost use Rattle.std.specs.Prelude.{length};
-ghost use Rattle.best.specs.Entry.{BestWay, DoneSays, JudgeAgrees, SawnOrRefused};
+ghost use Rattle.best.specs.Entry.{BestWay, DoneSays, SawnOrRefused};
 ghost use Rattle.best.specs.Wanted.{BestWorth};
+ghost use Rattle.saw.specs.Entry.{JudgeAgrees};
 ghost use Rattle.ways.specs.Input.{pieces_in};
 ghost use Rattle.ways.specs.Refusals.{refusal, room_fault};
 
 mod table;
 
 use nodes::write_way;
+use saw::Done;
 use table::{ByTable, Part};
 use ways::{Pieces, Refusal, Sheet};
 use worths::{Lying, values_of};
-
-#[derive(Clone, Copy, Debug, PartialEq)]
-pub enum Done {
-    // How many nodes the way has, and what it is worth.
-    Sawn(u64, u64),
-    // The number of the refusal.
-    Refused(u64),
-}
 
 // How many nodes a way has, and what it is worth.
 #[derive(Clone, Copy)]

@@ -1,5 +1,6 @@
 // What the entry refuses, and what it leaves.
-use best::{Done, saw};
+use best::saw;
+use saw::Done;
 use std::test::Fail;
 use ways::{Pieces, Sheet, Verdict, judge};
 
