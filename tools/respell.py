@@ -13,7 +13,6 @@ import os
 import re
 import sys
 
-NAME = re.compile(r"(?<![A-Za-z0-9_'.\-])[A-Za-z][A-Za-z0-9_']*(?:-[A-Za-z0-9_']+)+(?![A-Za-z0-9_'\-])")
 FIELD = re.compile(r"(?<![A-Za-z0-9_'\-])[A-Za-z][A-Za-z0-9_']*(?:-[A-Za-z0-9_']+)+(?![A-Za-z0-9_'\-])")
 ANY = re.compile(r"(?<![A-Za-z0-9_'\-])[A-Za-z][A-Za-z0-9_'\-]*")
 
@@ -81,7 +80,6 @@ def main():
                 # a lemma beside the answers that cite it; what is said to be a goal is the toolchain's
                 own |= {m.group(1) for m in [re.match(r"([A-Za-z][A-Za-z0-9_'\-]*-[A-Za-z0-9_'\-]+) :(?! goal)", code)] if m}
     own -= library
-    own = {w for w in own if not w.endswith("-lem")}
     names = {f for _, f in functions}
     new = {}
     for w in sorted(own):
