@@ -3,19 +3,23 @@ use Rattle.std.proofs.Common.{◌≡◌, ℕ, ◌+◌, ◌-◌, ◌*◌, ◌<◌
 use Rattle.std.proofs.lemmas.Bool.{le-leb, lt-leb}
 use Rattle.ways.specs.Refusals.{room_fault}
 use Rattle.ways.specs.declared.refusals.Refusal.TheVariants.{Room}
+use Rattle.ways.specs.Parts.{side_of, with_side}
+use Rattle.ways.specs.declared.parts.Orientation.{Orientation}
+use Rattle.ways.specs.declared.parts.Part.{Part}
 use Rattle.ways.proofs.Cuts.{Cut}
 use Rattle.ways.proofs.Few.{one_square, room_splits}
+use Rattle.ways.proofs.Within.{sawn_splits}
 use Rattle.best.specs.Choosing.{spare_nodes}
 
 -- the nodes of both parts of a cut have room besides its own
-module _ (blade w h x y : ℕ) where
-  pub spare_upright : Cut blade w x → y ≡ w - (x + blade) → 2 + (spare_nodes x h + spare_nodes y h) ≤ spare_nodes w h
-  unfolding spare_nodes
-  spare_upright c beyond = rw beyond (omega (arith, (room_splits blade).uprights w h x c, one_square x h, one_square (w - (x + blade)) h))
-
-  pub spare_level : Cut blade h x → y ≡ h - (x + blade) → 2 + (spare_nodes w x + spare_nodes w y) ≤ spare_nodes w h
-  unfolding spare_nodes
-  spare_level c beyond = rw beyond (omega (arith, (room_splits blade).levels w h x c, one_square w x, one_square w (h - (x + blade))))
+pub spare_sawn :
+    (blade : ℕ) (o : Orientation) (p q r : Part) (x : ℕ) → Cut blade (side_of o p.wide p.high) x → q ≡ with_side o p x → r ≡ with_side o p (side_of o p.wide p.high - (x + blade)) →
+    2 + (spare_nodes q.wide q.high + spare_nodes r.wide r.high) ≤ spare_nodes p.wide p.high
+unfolding spare_nodes
+spare_sawn blade o p q r x c near far =
+    let first = with_side o p x in
+    let second = with_side o p (side_of o p.wide p.high - (x + blade)) in
+    rw (near, far) (omega (arith, sawn_splits blade _ (room_splits blade) o p x c, one_square first.wide first.high, one_square second.wide second.high))
 
 module _ (w h : ℕ) (some_wide : 1 ≤ w) (some_high : 1 ≤ h) where
   spare_squares : 2 + spare_nodes w h ≡ 2 * (w * h)

@@ -6,7 +6,6 @@ use Rattle.ways.specs.Input.{pieces_in}
 use Rattle.ways.specs.Judged.{judged}
 use Rattle.ways.specs.Refusals.{sheet_fault, pieces_fault, room_fault, refusal}
 use Rattle.ways.specs.Sheet.{Way, worth_of, Best}
-use Rattle.ways.specs.declared.Verdict.TheVariants.{Can}
 use Rattle.ways.specs.declared.checked.Sheet.{Sheet}
 use Rattle.ways.specs.declared.input.Piece.{Piece}
 use Rattle.ways.specs.declared.refusals.Refusal.{Refusal}
@@ -16,9 +15,9 @@ use Rattle.worths.specs.Reckoned.{AddsUp}
 use Rattle.worths.specs.Table.{value_at, ValuesAre}
 use Rattle.worths.specs.declared.Values.{Values}
 use Rattle.worths.proofs.Found.{value_said}
-use Rattle.best.specs.Entry.{BestWay, DoneSays, SawnOrRefused}
+use Rattle.best.specs.Entry.{BestWay, SawnOrRefused}
 use Rattle.best.specs.Wanted.{BestFor, BestWorth}
-use Rattle.saw.specs.Entry.{JudgeAgrees}
+use Rattle.saw.specs.Entry.{DoneSays, JudgeAgrees}
 use Rattle.saw.specs.declared.Done.TheVariants.{Sawn}
 use Rattle.best.specs.declared.Plan.{Plan}
 use Rattle.best.proofs.Choosing.{top_worth}
@@ -43,7 +42,7 @@ module _ (blade : ℕ) (ps : List Piece) (w h v : ℕ) where
   best_way a k = record { best = k.best.top; worth = k.worth; thrifty = k.best.thrifty }
 
   -- and it is judged as it was answered
-  pub left_judged : (room : List ℕ) (n : ℕ) (room₁ : List ℕ) → Leaves (BestWay blade ps w h v) room n room₁ → judged blade ps w h room₁ ≡ Can v
+  pub left_judged : (room : List ℕ) (n : ℕ) (room₁ : List ℕ) → Leaves (BestWay blade ps w h v) room n room₁ → judged blade ps w h room₁ ≡ Some v
   unfolding Best
   left_judged room n room₁ k = agrees room₁ n k.later blade ps w h v k.some (omega (arith, k.within, k.as_long)) k.wanted.best.0 k.wanted.worth
 
@@ -68,6 +67,6 @@ asked_for wide high blade numbers room r room₁ s ps sheet as_wide as_high as_b
 
 -- so the entry may answer it
 pub done : (f : Option Refusal) (wide high blade : ℕ) (ps : List Piece) (room : List ℕ) (s : Plan) (room₁ : List ℕ) → SawnOrRefused f (BestWay blade ps wide high) room (Ok s) room₁ →
-    DoneSays f wide high blade ps room (Sawn s.nodes s.worth) room₁ × JudgeAgrees wide high blade ps (Sawn s.nodes s.worth) room₁
+    DoneSays f (BestWay blade ps wide high) room (Sawn s.nodes s.worth) room₁ × JudgeAgrees wide high blade ps (Sawn s.nodes s.worth) room₁
 done (Some e) wide high blade ps room s room₁ k = let never = k.0 in let z : ◌≡◌ {A = ℕ} 0 1 = cc in absurd (omega arith)
 done None wide high blade ps room s room₁ k = (k, left_judged blade ps wide high s.worth room s.nodes room₁ k)

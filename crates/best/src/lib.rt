@@ -2,9 +2,9 @@
 #![tactic(auto)]
 
 ghost use Rattle.std.specs.Prelude.{length};
-ghost use Rattle.best.specs.Entry.{BestWay, DoneSays, SawnOrRefused};
+ghost use Rattle.best.specs.Entry.{BestWay, SawnOrRefused};
 ghost use Rattle.best.specs.Wanted.{BestWorth};
-ghost use Rattle.saw.specs.Entry.{JudgeAgrees};
+ghost use Rattle.saw.specs.Entry.{DoneSays, JudgeAgrees};
 ghost use Rattle.ways.specs.Input.{pieces_in};
 ghost use Rattle.ways.specs.Refusals.{refusal, room_fault};
 
@@ -12,7 +12,7 @@ mod table;
 
 use nodes::write_way;
 use saw::Done;
-use table::{ByTable, Part};
+use table::ByTable;
 use ways::{Pieces, Refusal, Sheet};
 use worths::{Lying, values_of};
 
@@ -26,7 +26,7 @@ pub struct Plan {
 // Saws a sheet with a blade for pieces of three numbers each: wide, high, worth. A best way is left from the front of the room
 // on, four numbers a node.
 pub fn saw(wide: u64, high: u64, blade: u64, pieces: &[u32], room: &mut [u16]) -> Done
-    ensures done { DoneSays (refusal wide high blade pieces.now (length room.old)) wide high blade (pieces_in pieces.now) room.old result room.new }
+    ensures done { DoneSays (refusal wide high blade pieces.now (length room.old)) (BestWay blade (pieces_in pieces.now) wide high) room.old result room.new }
     ensures judged { JudgeAgrees wide high blade (pieces_in pieces.now) result room.new }
 {
     match saw_checked(wide, high, blade, pieces, room) {
@@ -46,7 +46,7 @@ fn saw_checked(
     ensures { SawnOrRefused (refusal wide high blade pieces.now (length room.old)) (BestWay blade (pieces_in pieces.now) wide high) room.old result room.new }
 {
     let sheet = Sheet::new(wide, high, blade)?;
-    let pieces = Pieces::from_numbers(pieces)?;
+    let pieces = Pieces::try_from(pieces)?;
     saw_sheet(sheet, &pieces, room)
 }
 
@@ -55,7 +55,7 @@ fn saw_checked(
 pub fn saw_sheet<U: Lying>(sheet: Sheet, uncut: &U, room: &mut [u16]) -> Result<Plan, Refusal>
     ensures { SawnOrRefused (room_fault sheet.wide sheet.high (length room.old)) (BestWorth (U.reckoned uncut.now sheet.blade) (U.leaf uncut.now) sheet.blade (U.pieces uncut.now) sheet.wide sheet.high) room.old result room.new }
 {
-    if room.len() < 8 * (sheet.wide() * sheet.high()) {
+    if room.len() < sheet.room() {
         return Err(Refusal::Room(room.len()));
     }
     let values = values_of(sheet, uncut);
@@ -63,11 +63,7 @@ pub fn saw_sheet<U: Lying>(sheet: Sheet, uncut: &U, room: &mut [u16]) -> Result<
         uncut,
         values: &values,
     };
-    let whole = Part {
-        wide: sheet.wide(),
-        high: sheet.high(),
-    };
-    let nodes = write_way(&chooser, whole, room);
+    let nodes = write_way(&chooser, sheet.whole(), room);
     Ok(Plan {
         nodes,
         worth: values.whole(),

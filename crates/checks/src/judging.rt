@@ -1,40 +1,14 @@
 // Ways judged, and sheets and pieces refused.
+use crate::cases::{
+    ALL_SCRAP, BLADE_FORGOTTEN, Case, EMPTY_PART_SAWN, NAMED_TWICE, NO_NODE, ONE, SEVEN_BY_SEVEN,
+    SQUARE, TEN_BY_SIX, THE_PIECE, THREE, on,
+};
 use std::alloc::Global;
 use std::test::Fail;
-use ways::{Pieces, Sheet, Verdict, judge};
+use ways::{Pieces, Sheet, judge};
 
-// A sheet and its blade, pieces, and nodes.
-#[derive(Clone, Copy)]
-struct Case {
-    sheet: (u64, u64, u64),
-    pieces: &'static [u32],
-    nodes: &'static [[u16; 4]],
-}
-
-fn on(sheet: (u64, u64, u64), pieces: &'static [u32], nodes: &'static [[u16; 4]]) -> Case {
-    Case {
-        sheet,
-        pieces,
-        nodes,
-    }
-}
-
-const ONE: &[u32] = &[4, 3, 12];
-
-const BOTH: &[u32] = &[4, 3, 12, 3, 4, 12];
-
-const THREE: &[u32] = &[4, 3, 12, 3, 2, 5, 5, 6, 31];
-
-const SQUARE: &[u32] = &[2, 2, 5];
-
-fn verdict(heap: Global, case: Case) -> Result<Verdict, Fail> {
-    let (wide, high, blade) = case.sheet;
-    let sheet = Sheet::new(wide, high, blade)?;
-    let pieces = Pieces::from_numbers(case.pieces)?;
-    let mut numbers = Vec::new(heap);
-    for node in case.nodes {
-        numbers.extend_from_slice(node)?;
-    }
+fn judged(heap: Global, case: Case) -> Result<Option<u32>, Fail> {
+    let (sheet, pieces, numbers) = case.read(heap)?;
     Ok(judge(sheet, &pieces, numbers.as_slice()))
 }
 
@@ -49,40 +23,8 @@ fn ways_that_can_be_sawn(rt: HostRuntime) -> Result<(), Fail> {
                 &[[2, 5, 1, 2], [1, 2, 0, 0], [1, 2, 0, 0]],
             ),
         ),
-        (
-            48,
-            on(
-                (10, 6, 1),
-                THREE,
-                &[
-                    [2, 4, 1, 6],
-                    [3, 2, 2, 5],
-                    [2, 3, 3, 4],
-                    [1, 1, 0, 0],
-                    [0, 0, 0, 0],
-                    [1, 0, 0, 0],
-                    [1, 2, 0, 0],
-                ],
-            ),
-        ),
-        (
-            36,
-            on(
-                (7, 7, 0),
-                BOTH,
-                &[
-                    [2, 4, 1, 6],
-                    [3, 3, 2, 3],
-                    [1, 0, 0, 0],
-                    [3, 3, 4, 5],
-                    [1, 0, 0, 0],
-                    [0, 0, 0, 0],
-                    [3, 4, 7, 8],
-                    [1, 1, 0, 0],
-                    [0, 0, 0, 0],
-                ],
-            ),
-        ),
+        (48, TEN_BY_SIX),
+        (36, SEVEN_BY_SEVEN),
         (
             24,
             on(
@@ -99,7 +41,7 @@ fn ways_that_can_be_sawn(rt: HostRuntime) -> Result<(), Fail> {
                 ],
             ),
         ),
-        (12, on((4, 3, 0), ONE, &[[1, 0, 0, 0]])),
+        (12, THE_PIECE),
         (
             12,
             on((5, 3, 0), ONE, &[[2, 1, 1, 2], [0, 0, 0, 0], [1, 0, 0, 0]]),
@@ -122,8 +64,7 @@ fn ways_that_can_be_sawn(rt: HostRuntime) -> Result<(), Fail> {
                 ],
             ),
         ),
-        // The sheet is scrap.
-        (0, on((7, 7, 3), ONE, &[[0, 0, 0, 0]])),
+        (0, ALL_SCRAP),
         // Numbers that a node doesn't need.
         (12, on((4, 3, 0), ONE, &[[1, 0, 9, 65535]])),
         // Nodes that aren't reached.
@@ -131,8 +72,7 @@ fn ways_that_can_be_sawn(rt: HostRuntime) -> Result<(), Fail> {
             12,
             on((4, 3, 0), ONE, &[[1, 0, 0, 0], [9, 9, 9, 9], [2, 0, 0, 0]]),
         ),
-        // A node that is named twice.
-        (24, on((8, 3, 0), ONE, &[[2, 4, 1, 1], [1, 0, 0, 0]])),
+        (24, NAMED_TWICE),
         // Later nodes in any order.
         (
             24,
@@ -142,18 +82,10 @@ fn ways_that_can_be_sawn(rt: HostRuntime) -> Result<(), Fail> {
                 &[[2, 4, 3, 2], [0, 0, 0, 0], [1, 0, 0, 0], [1, 0, 0, 0]],
             ),
         ),
-        // An empty part is sawn on.
-        (
-            12,
-            on(
-                (5, 3, 1),
-                ONE,
-                &[[2, 4, 1, 2], [1, 0, 0, 0], [3, 1, 3, 3], [0, 0, 0, 0]],
-            ),
-        ),
+        (12, EMPTY_PART_SAWN),
     ];
     for (worth, case) in rows {
-        assert_eq!(rt; verdict(rt.alloc(), case)?, Verdict::Can(worth));
+        assert_eq!(rt; judged(rt.alloc(), case)?, Some(worth));
     }
     Ok(())
 }
@@ -161,8 +93,7 @@ fn ways_that_can_be_sawn(rt: HostRuntime) -> Result<(), Fail> {
 #[test]
 fn ways_that_cannot(rt: HostRuntime) -> Result<(), Fail> {
     let rows = [
-        // There is no node.
-        on((4, 3, 0), ONE, &[]),
+        NO_NODE,
         // A kind above 3.
         on((4, 3, 0), ONE, &[[4, 0, 0, 0]]),
         // Nothing on the first side.
@@ -173,8 +104,7 @@ fn ways_that_cannot(rt: HostRuntime) -> Result<(), Fail> {
         on((4, 3, 0), ONE, &[[2, 4, 1, 2], [1, 0, 0, 0], [0, 0, 0, 0]]),
         // The same of a level cut.
         on((4, 3, 0), ONE, &[[3, 3, 1, 2], [1, 0, 0, 0], [0, 0, 0, 0]]),
-        // The second piece lacks what the blade takes.
-        on((8, 3, 1), ONE, &[[2, 4, 1, 2], [1, 0, 0, 0], [1, 0, 0, 0]]),
+        BLADE_FORGOTTEN,
         // A piece narrower than its part.
         on((5, 3, 0), ONE, &[[1, 0, 0, 0]]),
         // A piece lower than its part.
@@ -193,7 +123,7 @@ fn ways_that_cannot(rt: HostRuntime) -> Result<(), Fail> {
         on((5, 3, 0), ONE, &[[2, 4, 1, 2], [1, 0, 0, 0], [1, 0, 0, 0]]),
     ];
     for case in rows {
-        assert_eq!(rt; verdict(rt.alloc(), case)?, Verdict::Cannot);
+        assert_eq!(rt; judged(rt.alloc(), case)?, None);
     }
     Ok(())
 }
@@ -202,12 +132,9 @@ fn ways_that_cannot(rt: HostRuntime) -> Result<(), Fail> {
 #[test]
 fn numbers_of_no_node(rt: HostRuntime) -> Result<(), Fail> {
     let sheet = Sheet::new(4, 3, 0)?;
-    let pieces = Pieces::from_numbers(ONE)?;
-    assert_eq!(rt; judge(sheet, &pieces, &[1, 0, 0]), Verdict::Cannot);
-    assert_eq!(rt;
-        judge(sheet, &pieces, &[1, 0, 0, 0, 2, 1]),
-        Verdict::Can(12)
-    );
+    let pieces = Pieces::try_from(ONE)?;
+    assert_eq!(rt; judge(sheet, &pieces, &[1, 0, 0]), None);
+    assert_eq!(rt; judge(sheet, &pieces, &[1, 0, 0, 0, 2, 1]), Some(12));
     Ok(())
 }
 
@@ -231,7 +158,7 @@ fn pieces_that_are_refused(rt: HostRuntime) {
         (&[1, 1, 1, 0, 1, 1, 0, 1, 1], Some(1)),
     ];
     for (numbers, wrong) in rows {
-        let place = match Pieces::from_numbers(numbers) {
+        let place = match Pieces::try_from(numbers) {
             Ok(_) => None,
             Err(refusal) => {
                 assert_eq!(rt; refusal.number(), 2);

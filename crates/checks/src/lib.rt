@@ -2,8 +2,14 @@
 #![tactic(auto)]
 
 #[cfg(test)]
+mod best_entry;
+#[cfg(test)]
+mod cases;
+#[cfg(test)]
 mod entry;
 #[cfg(test)]
 mod judging;
 #[cfg(test)]
 mod sheets;
+#[cfg(test)]
+mod yielded;

@@ -1,13 +1,8 @@
 // What sheets are worth.
+use crate::cases::{BOTH, ONE, THREE};
 use std::test::Fail;
-use ways::{Pieces, Sheet};
+use ways::{Part, Pieces, Sheet};
 use worths::{best_worths, sheet_worth};
-
-const ONE: &[u32] = &[4, 3, 12];
-
-const BOTH: &[u32] = &[4, 3, 12, 3, 4, 12];
-
-const THREE: &[u32] = &[4, 3, 12, 3, 2, 5, 5, 6, 31];
 
 // A sheet and its blade, pieces, and what the sheet is worth.
 type Row<'a> = ((u64, u64, u64), &'a [u32], u32);
@@ -39,7 +34,7 @@ fn sheets_and_their_worth(rt: HostRuntime) -> Result<(), Fail> {
     ];
     for ((wide, high, blade), numbers, worth) in rows {
         let sheet = Sheet::new(wide, high, blade)?;
-        let pieces = Pieces::from_numbers(numbers)?;
+        let pieces = Pieces::try_from(numbers)?;
         assert_eq!(rt; sheet_worth(sheet, &pieces), worth);
     }
     Ok(())
@@ -48,7 +43,7 @@ fn sheets_and_their_worth(rt: HostRuntime) -> Result<(), Fail> {
 // The parts of one sheet, the empty ones among them, and what is no part of it.
 #[test]
 fn parts_and_their_worth(rt: HostRuntime) -> Result<(), Fail> {
-    let values = best_worths(Sheet::new(10, 6, 1)?, &Pieces::from_numbers(THREE)?);
+    let values = best_worths(Sheet::new(10, 6, 1)?, &Pieces::try_from(THREE)?);
     assert_eq!(rt; values.whole(), 48);
     let rows: [(usize, usize, Option<u32>); 10] = [
         (10, 6, Some(48)),
@@ -63,7 +58,7 @@ fn parts_and_their_worth(rt: HostRuntime) -> Result<(), Fail> {
         (10, 7, None),
     ];
     for (wide, high, worth) in rows {
-        assert_eq!(rt; values.worth(wide, high), worth);
+        assert_eq!(rt; values.worth(Part { wide, high }), worth);
     }
     Ok(())
 }

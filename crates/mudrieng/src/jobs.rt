@@ -2,19 +2,17 @@
 ghost use Rattle.std.specs.Prelude.{◌≡◌, min};
 
 use crate::faults::Fault;
-use std::alloc::Global;
+use std::alloc::{AllocError, Global};
 use std::str::SplitWhitespace;
-use ways::Refusal;
+use ways::{Piece, Refusal};
 
-// The numbers of a job as they stand in the text, not yet checked.
+// A job as it stands in the text, with its numbers not yet checked.
 #[derive(Drop)]
 pub(crate) struct Job {
     pub sheet: Option<SheetLine>,
-    // Three for each piece: wide, high, worth.
-    pub pieces: Vec<u32>,
-    pub names: Vec<String>,
-    // The first line that can't be read, and how many lines there are.
-    pub unread: Option<usize>,
+    pub pieces: Vec<Named>,
+    // The refusal of the first line that can't be read, and how many lines there are.
+    pub unread: Option<Refusal>,
     pub lines: usize,
 }
 
@@ -25,117 +23,133 @@ pub struct SheetLine {
     pub blade: u64,
 }
 
-#[derive(Clone, Copy)]
-pub struct PieceLine<'a> {
-    pub name: &'a str,
-    pub wide: u32,
-    pub high: u32,
-    pub worth: u32,
+// A piece that is wanted, under its name.
+#[derive(Drop)]
+pub struct Named {
+    pub name: String,
+    pub piece: Piece,
+}
+
+impl Job {
+    pub(crate) fn read(heap: Global, text: &str) -> Result<Job, Fault> {
+        let mut job = Job {
+            sheet: None,
+            pieces: Vec::new(heap),
+            unread: None,
+            lines: 0,
+        };
+        for line in text.lines() {
+            match job.add(heap, line) {
+                Err(Fault::Refused(refusal)) => job.unread = job.unread.or(Some(refusal)),
+                added => added?,
+            }
+            job.lines = job.lines.saturating_add(1);
+        }
+        Ok(job)
+    }
+
+    // Adds what the next line says. It is refused where it can't be read, and where it is a second one for the sheet.
+    fn add(&mut self, heap: Global, line: &str) -> Result<(), Fault> {
+        let refusal = Refusal::Line(self.lines);
+        match Line::try_from(line).map_err(|_| refusal)? {
+            Line::Blank => {}
+            Line::Sheet(_) if self.sheet.is_some() => return Err(Fault::Refused(refusal)),
+            Line::Sheet(sheet) => self.sheet = Some(sheet),
+            Line::Piece(name, piece) => self.pieces.push(Named {
+                name: String::from_str(heap, name)?,
+                piece,
+            })?,
+        }
+        Ok(())
+    }
+
+    // Three for each piece: wide, high, worth.
+    pub(crate) fn numbers(&self, heap: Global) -> Result<Vec<u32>, AllocError> {
+        let mut numbers = Vec::new(heap);
+        for Named { piece, .. } in &self.pieces {
+            numbers.extend_from_slice(&[piece.wide, piece.high, piece.worth])?;
+        }
+        Ok(numbers)
+    }
 }
 
 #[derive(Clone, Copy)]
 enum Line<'a> {
     Blank,
     Sheet(SheetLine),
-    Piece(PieceLine<'a>),
+    Piece(&'a str, Piece),
 }
 
-pub(crate) fn read_job(heap: Global, text: &str) -> Result<Job, Fault> {
-    let mut job = Job {
-        sheet: None,
-        pieces: Vec::new(heap),
-        names: Vec::new(heap),
-        unread: None,
-        lines: 0,
-    };
-    for line in text.lines() {
-        if !take_line(heap, &mut job, line)? && job.unread.is_none() {
-            job.unread = Some(job.lines);
+// A line that says nothing of a job.
+#[derive(Clone, Copy, Debug)]
+struct Unreadable;
+
+impl<'a> TryFrom<&'a str> for Line<'a> {
+    type Error = Unreadable;
+
+    fn try_from(line: &'a str) -> Result<Line<'a>, Unreadable> {
+        let mut words = Words(line.split_whitespace());
+        let Ok(first) = words.word() else {
+            return Ok(Line::Blank);
+        };
+        if first.starts_with('#') {
+            return Ok(Line::Blank);
         }
-        job.lines = job.lines.saturating_add(1);
-    }
-    Ok(job)
-}
-
-// Puts what a line says into the job; false where it can't be read.
-fn take_line(heap: Global, job: &mut Job, line: &str) -> Result<bool, Fault> {
-    match read_line(line) {
-        Some(Line::Blank) => Ok(true),
-        Some(Line::Sheet(sheet)) => {
-            let first = job.sheet.is_none();
-            if first {
-                job.sheet = Some(sheet);
-            }
-            Ok(first)
-        }
-        Some(Line::Piece(piece)) => {
-            job.names.push(String::from_str(heap, piece.name)?)?;
-            job.pieces.push(piece.wide)?;
-            job.pieces.push(piece.high)?;
-            job.pieces.push(piece.worth)?;
-            Ok(true)
-        }
-        None => Ok(false),
-    }
-}
-
-fn read_line(line: &str) -> Option<Line<'_>> {
-    let mut words = line.split_whitespace();
-    let Some(first) = words.next() else {
-        return Some(Line::Blank);
-    };
-    if first.starts_with('#') {
-        return Some(Line::Blank);
-    }
-    let read = match first {
-        "sheet" => Line::Sheet(sheet_line(&mut words)?),
-        "piece" => Line::Piece(piece_line(&mut words)?),
-        _ => return None,
-    };
-    match words.next() {
-        None => Some(read),
-        Some(_) => None,
-    }
-}
-
-fn sheet_line(words: &mut SplitWhitespace<'_>) -> Option<SheetLine> {
-    let wide = number(words.next()?)?;
-    let high = number(words.next()?)?;
-    if words.next()? != "blade" {
-        return None;
-    }
-    let blade = number(words.next()?)?;
-    Some(SheetLine { wide, high, blade })
-}
-
-fn piece_line<'a>(words: &mut SplitWhitespace<'a>) -> Option<PieceLine<'a>> {
-    let name = words.next()?;
-    let wide = narrowed(number(words.next()?)?);
-    let high = narrowed(number(words.next()?)?);
-    let worth = narrowed(number(words.next()?)?);
-    Some(PieceLine {
-        name,
-        wide,
-        high,
-        worth,
-    })
-}
-
-// A run of digits; one that is too long for a machine word counts as the largest.
-fn number(word: &str) -> Option<u64> {
-    let mut n = 0u64;
-    for b in word.bytes() {
-        match b {
-            b'0'..=b'9' => n = n.saturating_mul(10).saturating_add(u64::from(b - b'0')),
-            _ => return None,
+        let line = match first {
+            "sheet" => Line::Sheet(words.sheet()?),
+            "piece" => Line::Piece(words.word()?, words.piece()?),
+            _ => return Err(Unreadable),
+        };
+        match words.word() {
+            Err(Unreadable) => Ok(line),
+            Ok(_) => Err(Unreadable),
         }
     }
-    if word.is_empty() { None } else { Some(n) }
+}
+
+// The words of a line that are still to be read.
+#[derive(Drop)]
+struct Words<'a>(SplitWhitespace<'a>);
+
+impl<'a> Words<'a> {
+    fn word(&mut self) -> Result<&'a str, Unreadable> {
+        self.0.next().ok_or(Unreadable)
+    }
+
+    fn sheet(&mut self) -> Result<SheetLine, Unreadable> {
+        let wide = self.number()?;
+        let high = self.number()?;
+        match self.word()? {
+            "blade" => Ok(SheetLine {
+                wide,
+                high,
+                blade: self.number()?,
+            }),
+            _ => Err(Unreadable),
+        }
+    }
+
+    fn piece(&mut self) -> Result<Piece, Unreadable> {
+        Ok(Piece {
+            wide: narrowed(self.number()?),
+            high: narrowed(self.number()?),
+            worth: narrowed(self.number()?),
+        })
+    }
+
+    // A run of digits; one that is too long for a machine word counts as the largest.
+    fn number(&mut self) -> Result<u64, Unreadable> {
+        let word = self.word()?;
+        if !word.bytes().all(|b| b.is_ascii_digit()) {
+            return Err(Unreadable);
+        }
+        Ok(word.parse().unwrap_or(u64::MAX))
+    }
 }
 
 // The number, or the largest of 32 bits: no sheet is so wide or high, and no piece may be worth so much.
 fn narrowed(n: u64) -> u32
     ensures { result ≡ min n 4294967295 }
 {
-    n.min(u64::from(u32::MAX)) as u32
+    u32::try_from(n).unwrap_or(u32::MAX)
 }

@@ -1,8 +1,9 @@
 // Reads a job and prints what its sheet is worth, and a way to saw it.
 #![tactic(auto)]
 
-ghost use Rattle.std.specs.Prelude.{◌≡◌, ◌*◌, ◌≤◌, length, IfOk, None};
+ghost use Rattle.std.specs.Prelude.{◌≡◌, ℕ, ◌*◌, ◌<◌, ◌≤◌, true, length, IfOk, None};
 ghost use Rattle.ways.specs.Input.{pieces_in};
+ghost use Rattle.ways.specs.Nodes.{node_ok};
 ghost use Rattle.ways.specs.Refusals.{sheet_fault, pieces_fault};
 ghost use Rattle.ways.specs.View.{pieces_of};
 
@@ -11,10 +12,10 @@ mod jobs;
 mod shown;
 
 use faults::Fault;
-use jobs::{Job, read_job};
+use jobs::Job;
 use saw::{Done, saw};
-use shown::add_way;
-use std::alloc::{AllocError, Global};
+use shown::Shown;
+use std::alloc::Global;
 use std::process::ExitCode;
 use std::{env, fs, io};
 use ways::{Pieces, Refusal, Sheet};
@@ -48,61 +49,55 @@ fn job_text(rt: &HostRuntime) -> io::Result<String> {
     }
 }
 
-// What is printed for a job: what its sheet is worth, and the way.
+// What is printed for a job: what its sheet is worth, and the way that `saw` leaves. So far that is scrap, whatever the sheet is
+// worth.
 fn answer(heap: Global, text: &str) -> Result<String, Fault> {
-    let job = read_job(heap, text)?;
-    let (sheet, pieces) = accepted(&job)?;
+    let job = Job::read(heap, text)?;
+    let numbers = job.numbers(heap)?;
+    let (sheet, pieces) = accepted(&job, numbers.as_slice())?;
     let worth = sheet_worth(sheet, &pieces);
-    let mut lines = format!(in heap; "worth {worth}\n")?;
-    let mut room = vec![in heap; 0u16; 8 * (sheet.wide() * sheet.high())]?;
-    add_sawn(
-        heap,
-        &mut lines,
-        sheet,
-        job.pieces.as_slice(),
-        job.names.as_slice(),
-        room.as_mut_slice(),
-    )?;
-    Ok(lines)
+    let mut room = vec![in heap; 0u16; sheet.room()]?;
+    let count = left(sheet, numbers.as_slice(), room.as_mut_slice());
+    let way = Shown {
+        nodes: room.as_slice(),
+        count,
+        pieces: job.pieces.as_slice(),
+    };
+    Ok(format!(in heap; "worth {worth}\n{way}")?)
 }
 
-// Adds the lines of the way that `saw` leaves. So far it leaves scrap, whatever the sheet is worth.
-fn add_sawn(
-    heap: Global,
-    out: &mut String,
-    sheet: Sheet,
-    pieces: &[u32],
-    names: &[String],
-    room: &mut [u16],
-) -> Result<(), AllocError>
+// How many nodes `saw` leaves in the room.
+fn left(sheet: Sheet, numbers: &[u32], room: &mut [u16]) -> usize
     requires sheet { sheet_fault sheet.wide sheet.high sheet.blade ≡ None }
-    requires pieces { pieces_fault pieces.now ≡ None }
+    requires pieces { pieces_fault numbers.now ≡ None }
     requires room { 8 * (sheet.wide * sheet.high) ≤ length room.old }
+    ensures some { 0 < result }
+    ensures later { (k : ℕ) → k < result → node_ok room.new result k ≡ true }
 {
     let done = saw(
         sheet.wide() as u64,
         sheet.high() as u64,
         sheet.blade() as u64,
-        pieces,
+        numbers,
         room,
     );
     match done {
-        Done::Sawn(nodes, _) => add_way(heap, out, room, nodes as usize, 0, names, 0),
+        Done::Sawn(nodes, _) => nodes as usize,
         Done::Refused(_) => unreachable(),
     }
 }
 
 // The sheet and the pieces of a job, or the first refusal that applies, wherever in the text it stands.
-fn accepted(job: &Job) -> Result<(Sheet, Pieces), Refusal>
-    ensures { IfOk result (λ s. (sheet_fault s.0.wide s.0.high s.0.blade ≡ None) × (pieces_fault job.now.pieces.items ≡ None) × (pieces_of s.1 ≡ pieces_in job.now.pieces.items)) }
+fn accepted(job: &Job, numbers: &[u32]) -> Result<(Sheet, Pieces), Refusal>
+    ensures { IfOk result (λ s. (sheet_fault s.0.wide s.0.high s.0.blade ≡ None) × (pieces_fault numbers.now ≡ None) × (pieces_of s.1 ≡ pieces_in numbers.now)) }
 {
     let sheet = match job.sheet {
         Some(line) => Some(Sheet::new(line.wide, line.high, line.blade)?),
         None => None,
     };
-    let pieces = Pieces::from_numbers(job.pieces.as_slice())?;
+    let pieces = Pieces::try_from(numbers)?;
     match (job.unread, sheet) {
-        (Some(line), _) => Err(Refusal::Line(line)),
+        (Some(refusal), _) => Err(refusal),
         (None, Some(sheet)) => Ok((sheet, pieces)),
         // No line is for the sheet.
         (None, None) => Err(Refusal::Line(job.lines)),

@@ -2,64 +2,47 @@
 ghost use Rattle.std.specs.Prelude.{◌≡◌, ℕ, ◌<◌, ◌≤◌, true};
 ghost use Rattle.ways.specs.Nodes.{node_ok};
 
-use std::alloc::{AllocError, Global};
+use crate::jobs::Named;
+use std::fmt;
 use ways::Node;
 
-// Adds the lines of the way that the nodes say from node i on. Each of so many nodes names later ones among them only.
-pub(crate) fn add_way(
-    heap: Global,
-    out: &mut String,
-    nodes: &[u16],
-    count: usize,
-    i: usize,
-    names: &[String],
-    depth: usize,
-) -> Result<(), AllocError>
-    requires later { (k : ℕ) → k < count → node_ok nodes.now count k ≡ true }
-    requires within { i < count }
-    requires inner { depth ≤ i }
-{
-    for _ in 0..depth {
-        out.push_str("  ")?;
-    }
-    let Some(node) = Node::read(nodes, i) else {
-        unreachable()
-    };
-    match node {
-        Node::Scrap => out.push_str("scrap\n"),
-        Node::Take { piece } => add_piece(heap, out, names, piece as usize),
-        Node::Upright {
-            from_left,
-            left,
-            right,
-        } => {
-            out.push_str(format!(in heap; "upright {from_left}\n")?.as_str())?;
-            add_way(heap, out, nodes, count, left as usize, names, depth + 1)?;
-            add_way(heap, out, nodes, count, right as usize, names, depth + 1)
-        }
-        Node::Level {
-            from_below,
-            lower,
-            upper,
-        } => {
-            out.push_str(format!(in heap; "level {from_below}\n")?.as_str())?;
-            add_way(heap, out, nodes, count, lower as usize, names, depth + 1)?;
-            add_way(heap, out, nodes, count, upper as usize, names, depth + 1)
-        }
+// So many nodes, of which each names later ones among them only, and the pieces that they name.
+#[derive(Clone, Copy)]
+pub(crate) struct Shown<'a> {
+    pub nodes: &'a [u16],
+    pub count: usize,
+    pub pieces: &'a [Named],
+    ghost some: { 0 < count },
+    ghost later: { (k : ℕ) → k < count → node_ok nodes.now count k ≡ true },
+}
+
+impl fmt::Display for Shown<'_> {
+    fn fmt<W: fmt::Write>(&self, f: &mut fmt::Formatter<W>) -> fmt::Result {
+        self.part(f, 0, 0)
     }
 }
 
-// A piece by its name.
-fn add_piece(
-    heap: Global,
-    out: &mut String,
-    names: &[String],
-    piece: usize,
-) -> Result<(), AllocError> {
-    if piece < names.len() {
-        let name = names[piece].as_str();
-        out.push_str(format!(in heap; "piece {name}\n")?.as_str())
-    } else {
-        out.push_str(format!(in heap; "piece {piece}\n")?.as_str())
+impl Shown<'_> {
+    // The lines of the part that node i says.
+    fn part<W: fmt::Write>(&self, f: &mut fmt::Formatter<W>, i: usize, depth: usize) -> fmt::Result
+        requires within { i < self.now.count }
+        requires inner { depth ≤ i }
+    {
+        let Some(node) = Node::read(self.nodes, i) else {
+            unreachable()
+        };
+        write!(f, "{:indent$}", "", indent = 2 * depth)?;
+        match node {
+            Node::Scrap => writeln!(f, "scrap"),
+            Node::Take { piece } => match self.pieces.get(piece as usize) {
+                Some(named) => writeln!(f, "piece {}", named.name),
+                None => writeln!(f, "piece {piece}"),
+            },
+            Node::Saw(cut) => {
+                writeln!(f, "{} {}", cut.orientation, cut.at)?;
+                self.part(f, cut.first as usize, depth + 1)?;
+                self.part(f, cut.second as usize, depth + 1)
+            }
+        }
     }
 }

@@ -3,17 +3,30 @@ use Rattle.std.proofs.Common.{◌≡◌, ℕ, ◌+◌, ◌-◌, ◌*◌, ◌≤�
 use borrow.Rule.Slice.PartMut.{put_mid}
 use Rattle.std.proofs.lemmas.List.{append-nil, append_assoc, length-append, length-take-le, take_rest, drop-drop, drop_all, drop_at, take_at}
 use Rattle.ways.specs.Nodes.{numbers_of, size}
+use Rattle.ways.specs.Parts.{sawn}
 use Rattle.ways.specs.Sheet as sheet
 use Rattle.ways.specs.Sheet.{Way, scrap, upright, level}
 use Rattle.ways.specs.declared.nodes.Node.{Node}
-use Rattle.ways.specs.declared.nodes.Node.TheVariants.{Scrap, Take, Upright, Level}
-use Rattle.nodes.specs.Written.{encode}
+use Rattle.ways.specs.declared.nodes.Node.TheVariants.{Scrap, Take, Saw}
+use Rattle.ways.specs.declared.parts.Orientation.{Orientation}
+use Rattle.ways.specs.declared.parts.Orientation.TheVariants.{Upright, Level}
+use Rattle.nodes.specs.Written.{cut_node, encode}
 
-pub four_numbers : (node : Node) → length (numbers_of node) ≡ 4
+pub four_numbers : (node : Node ℕ) → length (numbers_of node) ≡ 4
 four_numbers Scrap = refl
 four_numbers (Take k) = refl
-four_numbers (Upright x a b) = refl
-four_numbers (Level y a b) = refl
+four_numbers (Saw c) = refl
+
+-- a cut's nodes, whichever way it goes
+pub encode_sawn : (o : Orientation) (i x : ℕ) (a b : Way) → encode i (sawn o x a b) ≡ numbers_of (cut_node o i x (size a)) ++ (encode (i + 1) a ++ encode (i + 1 + size a) b)
+unfolding encode
+encode_sawn Upright i x a b = refl
+encode_sawn Level i y a b = refl
+
+pub size_sawn : (o : Orientation) (x : ℕ) (a b : Way) → size (sawn o x a b) ≡ 1 + (size a + size b)
+unfolding size
+size_sawn Upright x a b = omega arith
+size_sawn Level y a b = omega arith
 
 pub length_encode : (i : ℕ) (a : Way) → length (encode i a) ≡ 4 * size a
 unfolding encode size
@@ -60,15 +73,16 @@ module _ (n m k₁ k₂ : ℕ) (xs ys zs es fs : List ℕ) (room : 4 + 4 * n ≤
 
 -- a cut's node in front of the nodes of its two parts, which were lent what was free one after the other
 pub cut_written :
-    (cut : ℕ → ℕ → Node) (i n m k₁ k₂ : ℕ) (xs ys zs ws : List ℕ) (a b : Way) → 4 + 4 * n ≤ length xs → n ≡ size a →
+    (o : Orientation) (x i n m k₁ k₂ : ℕ) (xs ys zs ws : List ℕ) (a b : Way) → 4 + 4 * n ≤ length xs → n ≡ size a →
     k₁ ≡ length xs - 4 → ys ≡ encode (i + 1) a ++ drop (4 * n) (take (length xs - 4) (drop 4 xs)) →
     k₂ ≡ length (put_mid 4 k₁ xs ys) - (4 + 4 * n) →
     zs ≡ encode (i + 1 + n) b ++ drop (4 * m) (take (length (put_mid 4 k₁ xs ys) - (4 + 4 * n)) (drop (4 + 4 * n) (put_mid 4 k₁ xs ys))) →
-    ws ≡ numbers_of (cut (i + 1) (i + 1 + n)) ++ drop 4 (put_mid (4 + 4 * n) k₂ (put_mid 4 k₁ xs ys) zs) →
-    ws ≡ (numbers_of (cut (i + 1) (i + 1 + size a)) ++ (encode (i + 1) a ++ encode (i + 1 + size a) b)) ++ drop (4 * (1 + n + m)) xs
-cut_written cut i n m k₁ k₂ xs ys zs ws a b room counted all₁ first all₂ second put =
+    ws ≡ numbers_of (cut_node o i x n) ++ drop 4 (put_mid (4 + 4 * n) k₂ (put_mid 4 k₁ xs ys) zs) →
+    ws ≡ encode i (sawn o x a b) ++ drop (4 * (1 + n + m)) xs
+cut_written o x i n m k₁ k₂ xs ys zs ws a b room counted all₁ first all₂ second put =
     let long : length (encode (i + 1) a) ≡ 4 * n = length_encode (i + 1) a ∙ (omega arith) in
     let two = two_parts n m k₁ k₂ xs ys zs (encode (i + 1) a) (encode (i + 1 + n) b) room long all₁ first all₂ second in
-    put ∙ ap (λ (z : List ℕ). numbers_of (cut (i + 1) (i + 1 + n)) ++ z) two
-    ∙ ap (λ (k : ℕ). numbers_of (cut (i + 1) (i + 1 + k)) ++ ((encode (i + 1) a ++ encode (i + 1 + k) b) ++ drop (4 * (1 + n + m)) xs)) counted
-    ∙ sym (append_assoc (numbers_of (cut (i + 1) (i + 1 + size a))) (encode (i + 1) a ++ encode (i + 1 + size a) b) (drop (4 * (1 + n + m)) xs))
+    put ∙ ap (λ (z : List ℕ). numbers_of (cut_node o i x n) ++ z) two
+    ∙ ap (λ (k : ℕ). numbers_of (cut_node o i x k) ++ ((encode (i + 1) a ++ encode (i + 1 + k) b) ++ drop (4 * (1 + n + m)) xs)) counted
+    ∙ sym (append_assoc (numbers_of (cut_node o i x (size a))) (encode (i + 1) a ++ encode (i + 1 + size a) b) (drop (4 * (1 + n + m)) xs))
+    ∙ ap (λ (z : List ℕ). z ++ drop (4 * (1 + n + m)) xs) (sym (encode_sawn o i x a b))

@@ -7,15 +7,7 @@ ghost use Rattle.nodes.specs.Written.{Leaves, Written};
 ghost use Rattle.ways.specs.Nodes.{numbers_of};
 ghost use Rattle.ways.specs.Sheet.{Way};
 
-use ways::Node;
-
-// What is done with a part: it is scrap, it is a piece, or it is sawn through and both parts are gone on with.
-pub enum Choice<P> {
-    Scrap,
-    Take { piece: u16 },
-    Upright { from_left: u16, left: P, right: P },
-    Level { from_below: u16, lower: P, upper: P },
-}
+use ways::{Cut, Node};
 
 // Who chooses what is done with each part.
 pub trait Chooser {
@@ -31,7 +23,7 @@ pub trait Chooser {
     // What is wanted of a part's way.
     ghost good: { Self → Self.Part → Way → Type 0 };
 
-    fn choose(&self, part: Self::Part) -> Choice<Self::Part>
+    fn choose(&self, part: Self::Part) -> Node<Self::Part>
         requires { ready self.now part }
         ensures { Fair (ready self.now) (spare self.now) (good self.now) part result };
 }
@@ -56,57 +48,42 @@ fn write_from<C: Chooser>(chooser: &C, part: C::Part, i: usize, room: &mut [u16]
     ensures { Written (C.good chooser.now part) (C.spare chooser.now part) i room.old result room.new }
 {
     match chooser.choose(part) {
-        Choice::Scrap => {
+        Node::Scrap => {
             put_node(room, Node::Scrap);
             1
         }
-        Choice::Take { piece } => {
+        Node::Take { piece } => {
             put_node(room, Node::Take { piece });
             1
         }
-        Choice::Upright {
-            from_left,
-            left,
-            right,
-        } => {
-            let first = write_from(chooser, left, i + 1, &mut room[4..]);
-            let second = write_from(chooser, right, i + 1 + first, &mut room[4 + 4 * first..]);
-            let (left, right) = ((i + 1) as u16, (i + 1 + first) as u16);
+        Node::Saw(cut) => {
+            let Cut {
+                orientation,
+                at,
+                first,
+                second,
+            } = cut;
+            let near = write_from(chooser, first, i + 1, &mut room[4..]);
+            let far = write_from(chooser, second, i + 1 + near, &mut room[4 + 4 * near..]);
+            let (first, second) = ((i + 1) as u16, (i + 1 + near) as u16);
             put_node(
                 room,
-                Node::Upright {
-                    from_left,
-                    left,
-                    right,
-                },
+                Node::Saw(Cut {
+                    orientation,
+                    at,
+                    first,
+                    second,
+                }),
             );
-            1 + first + second
-        }
-        Choice::Level {
-            from_below,
-            lower,
-            upper,
-        } => {
-            let first = write_from(chooser, lower, i + 1, &mut room[4..]);
-            let second = write_from(chooser, upper, i + 1 + first, &mut room[4 + 4 * first..]);
-            let (lower, upper) = ((i + 1) as u16, (i + 1 + first) as u16);
-            put_node(
-                room,
-                Node::Level {
-                    from_below,
-                    lower,
-                    upper,
-                },
-            );
-            1 + first + second
+            1 + near + far
         }
     }
 }
 
 // A node in the first four numbers of the room.
-fn put_node(room: &mut [u16], node: Node)
+fn put_node(room: &mut [u16], node: Node<u16>)
     requires { 4 ≤ length room.old }
     ensures { room.new ≡ numbers_of node ++ drop 4 room.old }
 {
-    room[0..4].copy_from_slice(&node.numbers());
+    room[0..4].copy_from_slice(&<[u16; 4]>::from(node));
 }

@@ -4,44 +4,36 @@ use Rattle.std.proofs.lemmas.Bool.{false≢true}
 use Rattle.std.proofs.lemmas.Bool.Decides.{nat_tests}
 use Rattle.ways.specs.declared.input.Piece.{Piece}
 use Rattle.ways.specs.declared.nodes.Node.{Node}
-use Rattle.ways.specs.declared.nodes.Node.TheVariants.{Scrap, Take, Upright, Level}
-use Rattle.ways.specs.declared.Verdict.TheVariants.{Can}
-use Rattle.ways.specs.Sheet.{Way, upright, level, can, worth_of}
-use Rattle.ways.specs.Nodes.{names_later_lem, node_at, node_ok, way_at, way_from}
-use Rattle.ways.specs.Judged.{both_parts, sound, part_worth_lem, judged}
+use Rattle.ways.specs.declared.nodes.Node.TheVariants.{Scrap, Take, Saw}
+use Rattle.ways.specs.Parts.{sawn}
+use Rattle.ways.specs.Sheet.{Way, can, worth_of}
+use Rattle.ways.specs.Nodes.{all_later, node_at, node_ok, way_at, way_from}
+use Rattle.ways.specs.Judged.{both_parts, sound, worth_from, judged}
 use Rattle.ways.proofs.Named.{both_later}
 
 -- what holds of the nodes that node i names holds of what it says
 module _ (n i : ℕ) where
   sound_node :
-      (m : ℕ) → n ≤ m → (o : Option Node) → names_later_lem n i o ≡ true → (f : ℕ → Bool) → ((j : ℕ) → i < j → j < n → f j ≡ true) →
-      (names_later_lem m i o && both_parts f o) ≡ true
+      (m : ℕ) → n ≤ m → (o : Option (Node ℕ)) → all_later n i o ≡ true → (f : ℕ → Bool) → ((j : ℕ) → i < j → j < n → f j ≡ true) →
+      (all_later m i o && both_parts f o) ≡ true
   unfolding both_parts
   sound_node m le None e f h = absurd (false≢true e)
   sound_node m le (Some Scrap) e f h = refl
   sound_node m le (Some (Take k)) e f h = refl
-  sound_node m le (Some (Upright x a b)) e f h =
-      let l = both_later n i a b e in
-      let fa : f a ≡ true = h a l.first_after l.first_below in
-      let fb : f b ≡ true = h b l.second_after l.second_below in rw (fa, fb) (grind (arith, nat_tests))
-  sound_node m le (Some (Level y a b)) e f h =
-      let l = both_later n i a b e in
-      let fa : f a ≡ true = h a l.first_after l.first_below in
-      let fb : f b ≡ true = h b l.second_after l.second_below in rw (fa, fb) (grind (arith, nat_tests))
+  sound_node m le (Some (Saw c)) e f h =
+      let l = both_later n i c.first c.second e in
+      let fa : f c.first ≡ true = h c.first l.first_after l.first_below in
+      let fb : f c.second ≡ true = h c.second l.second_after l.second_below in rw (fa, fb) (grind (arith, nat_tests))
 
-  same_node : (o : Option Node) → names_later_lem n i o ≡ true → (f g : ℕ → Way) → ((j : ℕ) → i < j → j < n → f j ≡ g j) → way_from f o ≡ way_from g o
+  same_node : (o : Option (Node ℕ)) → all_later n i o ≡ true → (f g : ℕ → Way) → ((j : ℕ) → i < j → j < n → f j ≡ g j) → way_from f o ≡ way_from g o
   unfolding way_from
   same_node None e f g h = refl
   same_node (Some Scrap) e f g h = refl
   same_node (Some (Take k)) e f g h = refl
-  same_node (Some (Upright x a b)) e f g h =
-      let l = both_later n i a b e in
-      let pa = h a l.first_after l.first_below in
-      let pb = h b l.second_after l.second_below in ap (λ z. upright x z (f b)) pa ∙ ap (λ z. upright x (g a) z) pb
-  same_node (Some (Level y a b)) e f g h =
-      let l = both_later n i a b e in
-      let pa = h a l.first_after l.first_below in
-      let pb = h b l.second_after l.second_below in ap (λ z. level y z (f b)) pa ∙ ap (λ z. level y (g a) z) pb
+  same_node (Some (Saw c)) e f g h =
+      let l = both_later n i c.first c.second e in
+      ap (λ z. sawn c.orientation c.at z (f c.second)) (h c.first l.first_after l.first_below)
+      ∙ ap (λ z. sawn c.orientation c.at (g c.first) z) (h c.second l.second_after l.second_below)
 
 module _ (xs : List ℕ) (n : ℕ) (ok : (i : ℕ) → i < n → node_ok xs n i ≡ true) where
   all_sound : (m l i : ℕ) → n ≤ m → i < n → n ≤ l + i → sound xs m l i ≡ true
@@ -58,8 +50,8 @@ module _ (xs : List ℕ) (n : ℕ) (ok : (i : ℕ) → i < n → node_ok xs n i 
 
   pub agrees :
       (blade : ℕ) (ps : List Piece) (w h v : ℕ) → 1 ≤ n → n ≤ length xs / 4 → can blade ps w h (way_at xs n 0) ≡ true → worth_of ps (way_at xs n 0) ≡ v →
-      judged blade ps w h xs ≡ Can v
-  unfolding judged part_worth_lem
+      judged blade ps w h xs ≡ Some v
+  unfolding judged worth_from
   agrees blade ps w h v some le able is =
       let s : sound xs (length xs / 4) (length xs / 4) 0 ≡ true = all_sound (length xs / 4) (length xs / 4) 0 le (omega arith) (omega arith) in
       let e : way_at xs (length xs / 4) 0 ≡ way_at xs n 0 = same_way (length xs / 4) n 0 (omega arith) (omega arith) (omega arith) in

@@ -1,9 +1,14 @@
 -- What it takes that a cut can be sawn, in numbers: the only lemmas that open `cut_ok`. Assumes nothing.
-use Rattle.std.proofs.Common.{◌≡◌, ℕ, ◌+◌, ◌-◌, ◌<◌, ◌≤◌, Bool, true, ◌&&◌, List, arith}
+use Rattle.std.proofs.Common.{◌≡◌, ℕ, ◌+◌, ◌-◌, ◌<◌, ◌≤◌, Bool, true, ◌&&◌, List, refl, sym, ◌∙◌, arith}
 use Rattle.std.proofs.lemmas.Bool.{and_parts, and_from}
 use Rattle.std.proofs.lemmas.Bool.Decides.{nat_tests}
-use Rattle.ways.specs.Sheet.{Way, upright, level, cut_ok, can}
+use Rattle.ways.specs.Adding.{Adds}
+use Rattle.ways.specs.Parts.{side_of, with_side, sawn}
+use Rattle.ways.specs.Sheet.{Way, upright, level, cut_ok, can, worth_of}
 use Rattle.ways.specs.declared.input.Piece.{Piece}
+use Rattle.ways.specs.declared.parts.Orientation.{Orientation}
+use Rattle.ways.specs.declared.parts.Orientation.TheVariants.{Upright, Level}
+use Rattle.ways.specs.declared.parts.Part.{Part}
 
 -- The blade goes in as a whole, and something is left beyond x: the blade's width, or else wood.
 pub record Cut (blade side x : ℕ) : Type 0 where
@@ -42,3 +47,50 @@ module _ (blade : ℕ) (ps : List Piece) (w h x : ℕ) (a b : Way) where
   pub level_from : Cut blade h x → can blade ps w x a ≡ true → can blade ps w (h - (x + blade)) b ≡ true → can blade ps w h (level x a b) ≡ true
   unfolding can
   level_from c p q = cut_from blade h x _ _ c p q
+
+-- the same of a cut whichever way
+pub can_sawn :
+    (blade : ℕ) (ps : List Piece) (o : Orientation) (p : Part) (x : ℕ) (a b : Way) →
+    let near = with_side o p x in
+    let far = with_side o p (side_of o p.wide p.high - (x + blade)) in
+    can blade ps p.wide p.high (sawn o x a b) ≡ (cut_ok blade (side_of o p.wide p.high) x && (can blade ps near.wide near.high a && can blade ps far.wide far.high b))
+unfolding can
+can_sawn blade ps Upright p x a b = refl
+can_sawn blade ps Level p y a b = refl
+
+pub worth_sawn : (ps : List Piece) (o : Orientation) (x : ℕ) (a b : Way) → worth_of ps (sawn o x a b) ≡ worth_of ps a + worth_of ps b
+unfolding worth_of
+worth_sawn ps Upright x a b = refl
+worth_sawn ps Level y a b = refl
+
+module _ (blade : ℕ) (ps : List Piece) (o : Orientation) (p : Part) (x : ℕ) (a b : Way) where
+  abbrev near : Part
+  near = with_side o p x
+
+  abbrev far : Part
+  far = with_side o p (side_of o p.wide p.high - (x + blade))
+
+  pub sawn_parts : can blade ps p.wide p.high (sawn o x a b) ≡ true → Cut blade (side_of o p.wide p.high) x × (can blade ps near.wide near.high a ≡ true) × (can blade ps far.wide far.high b ≡ true)
+  sawn_parts e = cut_parts blade (side_of o p.wide p.high) x _ _ (sym (can_sawn blade ps o p x a b) ∙ e)
+
+  pub sawn_from : Cut blade (side_of o p.wide p.high) x → can blade ps near.wide near.high a ≡ true → can blade ps far.wide far.high b ≡ true → can blade ps p.wide p.high (sawn o x a b) ≡ true
+  sawn_from c q r = can_sawn blade ps o p x a b ∙ cut_from blade (side_of o p.wide p.high) x _ _ c q r
+
+-- what adds up over cuts does so whichever way they go
+pub sawn_adds :
+    (blade : ℕ) (value : (wide high : ℕ) → Way → ℕ) → Adds blade value → (o : Orientation) (p : Part) (x : ℕ) (a b : Way) →
+    let near = with_side o p x in
+    let far = with_side o p (side_of o p.wide p.high - (x + blade)) in
+    value p.wide p.high (sawn o x a b) ≡ value near.wide near.high a + value far.wide far.high b
+sawn_adds blade value adds Upright p x a b = adds.uprights p.wide p.high x a b
+sawn_adds blade value adds Level p y a b = adds.levels p.wide p.high y a b
+
+-- both parts of a cut are smaller than what is sawn
+pub record Smaller (p q : Part) : Type 0 where
+  pub narrow : q.wide ≤ p.wide
+  pub low : q.high ≤ p.high
+  pub less : q.wide + q.high < p.wide + p.high
+
+pub smaller : (o : Orientation) (p q : Part) (x : ℕ) → q ≡ with_side o p x → x < side_of o p.wide p.high → Smaller p q
+smaller Upright p q x e lt = rw e (record { narrow = omega arith; low = omega arith; less = omega arith })
+smaller Level p q y e lt = rw e (record { narrow = omega arith; low = omega arith; less = omega arith })

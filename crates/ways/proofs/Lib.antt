@@ -1,4 +1,6 @@
 pub mod Allowed
+pub mod Chunks
+pub mod Fours
 pub mod Threes
 pub mod Cuts
 pub mod Within

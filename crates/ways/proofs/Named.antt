@@ -2,9 +2,10 @@
 use Rattle.std.proofs.Common.{◌≡◌, ℕ, ◌<◌, true, ◌&&◌, List, Some, None, sym, ap, ◌∙◌, arith}
 use Rattle.std.proofs.lemmas.Bool.{false≢true}
 use Rattle.std.proofs.lemmas.Bool.Decides.{nat_tests}
+use Rattle.ways.specs.declared.nodes.Cut.{Cut}
 use Rattle.ways.specs.declared.nodes.Node.{Node}
-use Rattle.ways.specs.declared.nodes.Node.TheVariants.{Upright, Level}
-use Rattle.ways.specs.Nodes.{comes_later, names_later_lem, node_at, node_ok}
+use Rattle.ways.specs.declared.nodes.Node.TheVariants.{Saw}
+use Rattle.ways.specs.Nodes.{comes_later, all_later, node_at, node_ok}
 
 -- both nodes that node i of n names come after it, among them
 pub record BothLater (n i a b : ℕ) : Type 0 where
@@ -19,15 +20,8 @@ both_later n i a b e = record { first_after = grind (arith, nat_tests); first_be
 module _ (xs : List ℕ) (n i : ℕ) (ok : node_ok xs n i ≡ true) where
   pub ok_there : None ≡ node_at xs i → ⊥
   unfolding node_ok
-  ok_there e = false≢true (ap (names_later_lem n i) e ∙ ok)
+  ok_there e = false≢true (ap (all_later n i) e ∙ ok)
 
-  module _ (node : Node) (read : Some node ≡ node_at xs i) (x a b : ℕ) where
-    named : (to : Node) → node ≡ to → names_later_lem n i (Some to) ≡ true
-    unfolding node_ok
-    named to is = ap (λ z. names_later_lem n i (Some z)) (sym is) ∙ ap (names_later_lem n i) read ∙ ok
-
-    pub ok_upright : node ≡ Upright x a b → BothLater n i a b
-    ok_upright is = both_later n i a b (named (Upright x a b) is)
-
-    pub ok_level : node ≡ Level x a b → BothLater n i a b
-    ok_level is = both_later n i a b (named (Level x a b) is)
+  pub ok_saw : (node : Node ℕ) → Some node ≡ node_at xs i → (c : Cut ℕ) → node ≡ Saw c → BothLater n i c.first c.second
+  unfolding node_ok
+  ok_saw node read c is = both_later n i c.first c.second (ap (λ z. all_later n i (Some z)) (sym is) ∙ ap (all_later n i) read ∙ ok)

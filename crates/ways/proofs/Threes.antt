@@ -1,15 +1,23 @@
 -- Pieces read from numbers, three by three. Assumes nothing.
-use Rattle.std.proofs.Common.{◌≡◌, ℕ, zero, suc, ◌+◌, ◌*◌, ◌<◌, ◌≤◌, true, false, ◌&&◌, ltb, List, [], ◌∷◌, ◌++◌, length, get_or, take, drop, Some, None, sym, refl, ap, ◌∙◌, arith, drop-cons}
+use Rattle.std.proofs.Common.{◌≡◌, ℕ, zero, suc, ◌+◌, ◌*◌, ◌/◌, ◌<◌, ◌≤◌, true, false, ◌&&◌, ltb, List, [], ◌∷◌, ◌++◌, length, get_or, take, drop, Some, None, sym, refl, ap, ◌∙◌, arith, drop-cons}
 use Rattle.std.proofs.lemmas.List.{append_assoc, append-nil, length-drop, drop_all}
 use Rattle.std.proofs.lemmas.Bool.{cond-true, cond-false}
 use Rattle.ways.specs.declared.input.Piece.{Piece}
 use Rattle.ways.specs.declared.refusals.Refusal.TheVariants.{Piece as BadPiece}
-use Rattle.ways.specs.Input.{piece_ok, pieces_in}
+use Rattle.std.specs.Simd.{first_chunks}
+use Rattle.ways.specs.Input.{piece_from, piece_ok, pieces_in}
 use Rattle.ways.specs.Refusals.{fault_from}
+use Rattle.ways.proofs.Chunks.{in_chunk}
 
 -- the piece that the numbers from n on stand for
 abbrev pub piece_at : List ℕ → ℕ → Piece
 piece_at xs n = record { wide = get_or xs n 0; high = get_or xs (n + 1) 0; worth = get_or xs (n + 2) 0 }
+
+-- it is the one that chunk k stands for
+pub piece_in : (xs three d : List ℕ) (k : ℕ) → k < length xs / 3 → three ≡ get_or (first_chunks 3 (length xs / 3) xs) k d → piece_from three ≡ piece_at xs (3 * k)
+piece_in xs three d k lt is = rw (number 0 (3 * k) (omega arith) (omega arith), number 1 (3 * k + 1) (omega arith) (omega arith), number 2 (3 * k + 2) (omega arith) (omega arith)) refl where
+  number : (j at : ℕ) → j < 3 → at ≡ k * 3 + j → get_or three j 0 ≡ get_or xs at 0
+  number j at less e = ap (λ z. get_or z j 0) is ∙ in_chunk 3 (length xs / 3) k j xs d lt less ∙ ap (λ m. get_or xs m 0) (sym e)
 
 -- the first k pieces are held, and none of them is wrong
 pub record SoFar (xs : List ℕ) (k count : ℕ) (held : List Piece) : Type 0 where
@@ -32,10 +40,14 @@ so_far_none xs zero list e = record { counted = refl; rest = refl; fault = refl 
 so_far_none xs (suc n) list e = absurd (omega arith)
 
 module _ (xs : List ℕ) (k count : ℕ) (held : List Piece) (s : SoFar xs k count held) where
-  pub so_far_more : (count₁ : ℕ) (held₁ : List Piece) → 3 * k + 3 ≤ length xs → (ltb count 16 && piece_ok (piece_at xs (3 * k))) ≡ true → count₁ ≡ count + 1 → held₁ ≡ held ++ (piece_at xs (3 * k) ∷ []) → SoFar xs (k + 1) count₁ held₁
+  pub so_far_more :
+      (q : Piece) (count₁ : ℕ) (held₁ : List Piece) → q ≡ piece_at xs (3 * k) → 3 * k + 3 ≤ length xs → (ltb count 16 && piece_ok q) ≡ true → count₁ ≡ count + 1 →
+      held₁ ≡ held ++ (q ∷ []) → SoFar xs (k + 1) count₁ held₁
   unfolding pieces_in fault_from
-  so_far_more count₁ held₁ le ok more one =
+  so_far_more q count₁ held₁ is le fine more last =
       let p : Piece = piece_at xs (3 * k) in
+      let ok = rw is at fine in
+      let one = rw is at last in
       let ys : List ℕ = drop (3 * (k + 1)) xs in
       record {
         counted = omega (arith, s.counted);
@@ -43,9 +55,10 @@ module _ (xs : List ℕ) (k count : ℕ) (held : List Piece) (s : SoFar xs k cou
         fault = sym (cond-true _ (fault_from (k + 1) ys) (Some (BadPiece k)) (rw s.counted at ok)) ∙ ap (fault_from k) (sym (three_more xs k le)) ∙ s.fault;
       }
 
-  pub so_far_wrong : 3 * k + 3 ≤ length xs → (ltb count 16 && piece_ok (piece_at xs (3 * k))) ≡ false → fault_from 0 xs ≡ Some (BadPiece count)
+  pub so_far_wrong : (q : Piece) → q ≡ piece_at xs (3 * k) → 3 * k + 3 ≤ length xs → (ltb count 16 && piece_ok q) ≡ false → fault_from 0 xs ≡ Some (BadPiece count)
   unfolding fault_from
-  so_far_wrong le bad =
+  so_far_wrong q is le wrong =
+      let bad = rw is at wrong in
       sym s.fault ∙ ap (fault_from k) (three_more xs k le) ∙ cond-false _ (fault_from (k + 1) (drop (3 * (k + 1)) xs)) (Some (BadPiece k)) (rw s.counted at bad) ∙ ap (λ (n : ℕ). Some (BadPiece n)) (sym s.counted)
 
   pub so_far_all : length xs ≤ 3 * k → (fault_from 0 xs ≡ None) × (held ≡ pieces_in xs)

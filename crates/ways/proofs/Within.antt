@@ -2,13 +2,25 @@
 use Rattle.std.proofs.Common.{◌≡◌, ℕ, ◌+◌, ◌-◌, ◌*◌, ◌≤◌, true, List, mul-le-mul_right, add-mul, mul-le-mul_left, mul-add, arith}
 use Rattle.ways.specs.Adding.{Adds}
 use Rattle.ways.specs.Sheet.{Way, scrap, take, upright, level, piece_fits, can}
+use Rattle.ways.specs.Parts.{side_of, with_side}
 use Rattle.ways.specs.declared.input.Piece.{Piece}
+use Rattle.ways.specs.declared.parts.Orientation.{Orientation}
+use Rattle.ways.specs.declared.parts.Orientation.TheVariants.{Upright, Level}
+use Rattle.ways.specs.declared.parts.Part.{Part}
 use Rattle.ways.proofs.Cuts.{Cut, upright_parts, level_parts}
 
 -- a part has at least as much room as the two parts of any cut have together
 pub record Splits (blade : ℕ) (room : (wide high : ℕ) → ℕ) : Type 0 where
   pub uprights : (w h x : ℕ) → Cut blade w x → room x h + room (w - (x + blade)) h ≤ room w h
   pub levels : (w h y : ℕ) → Cut blade h y → room w y + room w (h - (y + blade)) ≤ room w h
+
+pub sawn_splits :
+    (blade : ℕ) (room : (wide high : ℕ) → ℕ) → Splits blade room → (o : Orientation) (p : Part) (x : ℕ) → Cut blade (side_of o p.wide p.high) x →
+    let near = with_side o p x in
+    let far = with_side o p (side_of o p.wide p.high - (x + blade)) in
+    room near.wide near.high + room far.wide far.high ≤ room p.wide p.high
+sawn_splits blade room splits Upright p x c = splits.uprights p.wide p.high x c
+sawn_splits blade room splits Level p y c = splits.levels p.wide p.high y c
 
 -- what has room as it lies has room however it is sawn
 module _ (blade : ℕ) (ps : List Piece) (value : ℕ → ℕ → Way → ℕ) (room : ℕ → ℕ → ℕ) (adds : Adds blade value) (splits : Splits blade room)

@@ -1,4 +1,5 @@
 pub mod Sheet
+pub mod Parts
 pub mod Adding
 pub mod Input
 pub mod Refusals

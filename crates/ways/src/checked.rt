@@ -1,17 +1,18 @@
 // A sheet and pieces that are as they may be: their constructors refuse all others.
-ghost use Rattle.std.specs.Prelude.{◌≡◌, ◌+◌, ◌<◌, ◌≤◌, true, false, ◌&&◌, [], ◌∷◌, ◌++◌, take, Some, None, MatchResult, nat_lt};
+ghost use Rattle.std.specs.Prelude.{◌≡◌, ◌+◌, ◌*◌, ◌<◌, ◌≤◌, true, false, ◌&&◌, [], ◌∷◌, ◌++◌, take, Some, None, MatchResult, nat_lt};
 ghost use Rattle.ways.specs.Input.{piece_ok, pieces_ok, pieces_in};
 ghost use Rattle.ways.specs.Refusals.{sheet_fault, pieces_fault};
 ghost use Rattle.ways.specs.declared.refusals.Refusal.TheVariants.{Piece as BadPiece};
 
 use crate::input::Piece;
+use crate::parts::Part;
 use crate::refusals::Refusal;
 
 // The widest and the highest that a sheet may be, and the most that a blade may take.
 const LARGEST: u64 = 60;
 
 // The most sorts of pieces.
-const MOST: usize = 16;
+pub const MOST: usize = 16;
 
 // The most that a piece may be worth.
 const DEAREST: u32 = 100_000;
@@ -25,7 +26,8 @@ pub struct Sheet {
     ghost ok: { (1 ≤ wide) × (wide ≤ 60) × (1 ≤ high) × (high ≤ 60) × (blade ≤ 60) },
 }
 
-// The sorts of pieces that are wanted, sixteen at most.
+// The sorts of pieces that are wanted, sixteen at most. They are an array with a count, since an `ArrayVec` isn't `Copy` and
+// pieces are passed by value.
 #[derive(Clone, Copy)]
 pub struct Pieces {
     list: [Piece; MOST],
@@ -71,27 +73,27 @@ impl Sheet {
     {
         self.blade
     }
+
+    // The part that is all of it.
+    pub fn whole(&self) -> Part
+        ensures wide { result.wide ≡ self.now.wide }
+        ensures high { result.high ≡ self.now.high }
+    {
+        Part {
+            wide: self.wide,
+            high: self.high,
+        }
+    }
+
+    // The fewest numbers that a room for its nodes may have: eight for each square.
+    pub fn room(&self) -> usize
+        ensures { result ≡ 8 * (self.now.wide * self.now.high) }
+    {
+        8 * (self.wide * self.high)
+    }
 }
 
 impl Pieces {
-    // The pieces that numbers in threes stand for: wide, high, worth.
-    pub fn from_numbers(numbers: &[u32]) -> Result<Pieces, Refusal>
-        ensures { MatchResult result (λ s. (pieces_fault numbers.now ≡ None) × (take s.count s.list ≡ pieces_in numbers.now)) (λ e. pieces_fault numbers.now ≡ Some e) }
-    {
-        let mut pieces = Pieces::none();
-        for k in 0..numbers.len() / 3 {
-            pieces.push(Piece {
-                wide: numbers[3 * k],
-                high: numbers[3 * k + 1],
-                worth: numbers[3 * k + 2],
-            })?;
-        }
-        if numbers.len() % 3 != 0 {
-            return Err(Refusal::Piece(numbers.len() / 3));
-        }
-        Ok(pieces)
-    }
-
     pub fn as_slice(&self) -> &[Piece]
         ensures { result.now ≡ take self.now.count self.now.list }
     {
@@ -101,13 +103,8 @@ impl Pieces {
     fn none() -> Pieces
         ensures { result.count ≡ 0 }
     {
-        let unused = Piece {
-            wide: 0,
-            high: 0,
-            worth: 0,
-        };
         Pieces {
-            list: [unused; MOST],
+            list: [Piece::default(); MOST],
             count: 0,
         }
     }
@@ -123,6 +120,26 @@ impl Pieces {
             Ok(())
         } else {
             Err(Refusal::Piece(self.count))
+        }
+    }
+}
+
+// The pieces that numbers in threes stand for: wide, high, worth.
+impl<'a> TryFrom<&'a [u32]> for Pieces {
+    type Error = Refusal;
+
+    ghost try_from_gives = { λ numbers r. MatchResult r (λ s. (pieces_fault numbers.now ≡ None) × (take s.count s.list ≡ pieces_in numbers.now)) (λ e. pieces_fault numbers.now ≡ Some e) };
+
+    fn try_from(numbers: &'a [u32]) -> Result<Pieces, Refusal> {
+        let mut pieces = Pieces::none();
+        let (threes, rest) = numbers.as_chunks::<3>();
+        for three in threes {
+            pieces.push(Piece::from(*three))?;
+        }
+        if rest.is_empty() {
+            Ok(pieces)
+        } else {
+            Err(Refusal::Piece(threes.len()))
         }
     }
 }

@@ -2,58 +2,37 @@
 #![tactic(auto)]
 
 ghost use Rattle.std.specs.Prelude.{◌≡◌, ℕ, ◌+◌, ◌-◌, ◌/◌, ◌≤◌, length, if◌then◌else◌, Some, None};
-ghost use Rattle.ways.specs.Judged.{judged, part_worth_lem};
-ghost use Rattle.ways.specs.Nodes.{comes_later, names_later_lem};
+ghost use Rattle.ways.specs.Judged.{judged, worth_from};
+ghost use Rattle.ways.specs.Nodes.{comes_later, all_later};
 ghost use Rattle.ways.specs.Sheet.{cut_ok, piece_fits, worth_at};
 ghost use Rattle.ways.specs.View.{pieces_of};
 
 mod checked;
 mod input;
 mod nodes;
+mod parts;
 mod refusals;
 
-pub use checked::{Pieces, Sheet};
+pub use checked::{MOST, Pieces, Sheet};
 pub use input::Piece;
-pub use nodes::Node;
+pub use nodes::{Cut, Node, UnknownKind};
+pub use parts::{Orientation, Part};
 pub use refusals::Refusal;
 
-// What is said of nodes: they are a way that can be sawn, with its worth, or they aren't.
-#[derive(Clone, Copy, Debug, PartialEq)]
-pub enum Verdict {
-    Can(u32),
-    Cannot,
-}
-
-// Judges nodes of four numbers each, of which the first is the way. A node that names itself, an earlier or a missing one is
-// no way, nor is one of a kind above 3; numbers that a node doesn't need and nodes that the way doesn't reach are of no matter.
-pub fn judge(sheet: Sheet, pieces: &Pieces, numbers: &[u16]) -> Verdict
+// Judges nodes of four numbers each, of which the first is the way: what it is worth, if it can be sawn. A node that names itself,
+// an earlier or a missing one is no way, nor is one of a kind above 3; numbers that a node doesn't need and nodes that the way
+// doesn't reach are of no matter.
+pub fn judge(sheet: Sheet, pieces: &Pieces, numbers: &[u16]) -> Option<u32>
     ensures { result ≡ judged sheet.blade (pieces_of pieces.now) sheet.wide sheet.high numbers.now }
 {
-    match part_worth(
-        numbers,
-        0,
-        pieces,
-        sheet.blade(),
-        sheet.wide(),
-        sheet.high(),
-    ) {
-        Some(worth) => Verdict::Can(worth),
-        None => Verdict::Cannot,
-    }
+    part_worth(numbers, 0, pieces, sheet.blade(), sheet.whole())
 }
 
 // What a part is worth, sawn as node i says. Every cut makes its parts smaller, so the sheet bounds how many nodes are looked at,
 // however many name the same one.
-fn part_worth(
-    numbers: &[u16],
-    i: usize,
-    pieces: &Pieces,
-    blade: usize,
-    wide: usize,
-    high: usize,
-) -> Option<u32>
-    requires small { (blade ≤ 60) × ((wide ≤ 60) × (high ≤ 60)) }
-    ensures { (l : ℕ) → length numbers.now / 4 ≤ l + i → result ≡ part_worth_lem blade (pieces_of pieces.now) numbers.now (length numbers.now / 4) l i wide high }
+fn part_worth(numbers: &[u16], i: usize, pieces: &Pieces, blade: usize, part: Part) -> Option<u32>
+    requires small { (blade ≤ 60) × ((part.wide ≤ 60) × (part.high ≤ 60)) }
+    ensures { (l : ℕ) → length numbers.now / 4 ≤ l + i → result ≡ worth_from blade (pieces_of pieces.now) numbers.now (length numbers.now / 4) l i part.wide part.high }
 {
     let node = Node::read(numbers, i)?;
     if !names_later(node, i, numbers.len() / 4) {
@@ -61,57 +40,24 @@ fn part_worth(
     }
     match node {
         Node::Scrap => Some(0),
-        Node::Take { piece } => fitting(pieces.as_slice(), piece, wide, high),
-        Node::Upright {
-            from_left,
-            left,
-            right,
-        } => {
-            let rest = beyond(blade, wide, from_left)?;
-            let first = part_worth(
-                numbers,
-                left as usize,
-                pieces,
-                blade,
-                from_left as usize,
-                high,
-            )?;
-            let second = part_worth(numbers, right as usize, pieces, blade, rest, high)?;
-            Some(first + second)
-        }
-        Node::Level {
-            from_below,
-            lower,
-            upper,
-        } => {
-            let rest = beyond(blade, high, from_below)?;
-            let first = part_worth(
-                numbers,
-                lower as usize,
-                pieces,
-                blade,
-                wide,
-                from_below as usize,
-            )?;
-            let second = part_worth(numbers, upper as usize, pieces, blade, wide, rest)?;
+        Node::Take { piece } => fitting(pieces.as_slice(), piece, part),
+        Node::Saw(cut) => {
+            let rest = beyond(blade, part.side(cut.orientation), cut.at)?;
+            let near = part.with_side(cut.orientation, cut.at as usize);
+            let far = part.with_side(cut.orientation, rest);
+            let first = part_worth(numbers, cut.first as usize, pieces, blade, near)?;
+            let second = part_worth(numbers, cut.second as usize, pieces, blade, far)?;
             Some(first + second)
         }
     }
 }
 
 // What piece k is worth, if it is just so wide and so high.
-fn fitting(pieces: &[Piece], k: u16, wide: usize, high: usize) -> Option<u32>
-    ensures { result ≡ (if piece_fits pieces.now k wide high then Some (worth_at pieces.now k) else None) }
+fn fitting(pieces: &[Piece], k: u16, part: Part) -> Option<u32>
+    ensures { result ≡ (if piece_fits pieces.now k part.wide part.high then Some (worth_at pieces.now k) else None) }
 {
-    if k as usize >= pieces.len() {
-        return None;
-    }
-    let p = pieces[k as usize];
-    if p.wide as usize == wide && p.high as usize == high {
-        Some(p.worth)
-    } else {
-        None
-    }
+    let p = pieces.get(k as usize)?;
+    if p.fits(part) { Some(p.worth) } else { None }
 }
 
 // A cut leaves at least so much on its first side.
@@ -131,13 +77,12 @@ fn beyond(blade: usize, side: usize, x: u16) -> Option<usize>
 }
 
 // Node i names only nodes that come after it, among so many.
-fn names_later(node: Node, i: usize, count: usize) -> bool
-    ensures { result ≡ names_later_lem count i (Some node) }
+fn names_later(node: Node<u16>, i: usize, count: usize) -> bool
+    ensures { result ≡ all_later count i (Some node) }
 {
     match node {
         Node::Scrap | Node::Take { .. } => true,
-        Node::Upright { left, right, .. } => later(left, i, count) && later(right, i, count),
-        Node::Level { lower, upper, .. } => later(lower, i, count) && later(upper, i, count),
+        Node::Saw(cut) => later(cut.first, i, count) && later(cut.second, i, count),
     }
 }
 

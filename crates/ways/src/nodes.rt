@@ -1,69 +1,88 @@
 // A way's nodes, each four numbers of a lent slice.
 ghost use Rattle.std.specs.Prelude.{◌≡◌};
-ghost use Rattle.ways.specs.Nodes.{node_at, numbers_of};
+ghost use Rattle.ways.specs.Nodes.{node_at, numbers_of, Reads};
 
-// What is done with a part of the sheet. The parts that a cut leaves are named by the numbers of their nodes.
+use crate::parts::Orientation;
+use std::error::Error;
+use std::fmt;
+
+// What is done with a part of the sheet. What the parts that a cut leaves are named by, P says: the numbers of their nodes, in a
+// way that is lent.
 #[derive(Clone, Copy)]
-pub enum Node {
+pub enum Node<P> {
     Scrap,
-    Take {
-        piece: u16,
-    },
-    Upright {
-        from_left: u16,
-        left: u16,
-        right: u16,
-    },
-    Level {
-        from_below: u16,
-        lower: u16,
-        upper: u16,
-    },
+    Take { piece: u16 },
+    Saw(Cut<P>),
 }
 
-impl Node {
+// A cut through a part, so far from the left or from below, and the two parts that it leaves: the left or the lower one first.
+#[derive(Clone, Copy)]
+pub struct Cut<P> {
+    pub orientation: Orientation,
+    pub at: u16,
+    pub first: P,
+    pub second: P,
+}
+
+// Four numbers of which the first is no kind of node.
+#[derive(Clone, Copy, Debug, PartialEq, Eq)]
+pub struct UnknownKind(pub u16);
+
+impl Node<u16> {
     // Node i of numbers in fours, if it is there.
-    pub fn read(numbers: &[u16], i: usize) -> Option<Node>
+    pub fn read(numbers: &[u16], i: usize) -> Option<Node<u16>>
         ensures { result ≡ node_at numbers.now i }
     {
-        if i >= numbers.len() / 4 {
-            return None;
-        }
-        let (x, first, second) = (numbers[4 * i + 1], numbers[4 * i + 2], numbers[4 * i + 3]);
-        match numbers[4 * i] {
-            0 => Some(Node::Scrap),
-            1 => Some(Node::Take { piece: x }),
-            2 => Some(Node::Upright {
-                from_left: x,
-                left: first,
-                right: second,
-            }),
-            3 => Some(Node::Level {
-                from_below: x,
-                lower: first,
-                upper: second,
-            }),
-            _ => None,
-        }
+        let (nodes, _) = numbers.as_chunks::<4>();
+        Node::try_from(*nodes.get(i)?).ok()
     }
+}
 
-    // The four numbers that stand for it.
-    pub fn numbers(self) -> [u16; 4]
-        ensures { result ≡ numbers_of self }
-    {
-        match self {
+impl TryFrom<[u16; 4]> for Node<u16> {
+    type Error = UnknownKind;
+
+    ghost try_from_gives = { Reads };
+
+    fn try_from([kind, x, first, second]: [u16; 4]) -> Result<Node<u16>, UnknownKind> {
+        let orientation = match kind {
+            0 => return Ok(Node::Scrap),
+            1 => return Ok(Node::Take { piece: x }),
+            2 => Orientation::Upright,
+            3 => Orientation::Level,
+            _ => return Err(UnknownKind(kind)),
+        };
+        Ok(Node::Saw(Cut {
+            orientation,
+            at: x,
+            first,
+            second,
+        }))
+    }
+}
+
+// The four numbers that stand for a node; those that it doesn't need are 0.
+impl From<Node<u16>> for [u16; 4] {
+    ghost from_gives = { λ node numbers. numbers ≡ numbers_of node };
+
+    fn from(node: Node<u16>) -> [u16; 4] {
+        match node {
             Node::Scrap => [0, 0, 0, 0],
             Node::Take { piece } => [1, piece, 0, 0],
-            Node::Upright {
-                from_left,
-                left,
-                right,
-            } => [2, from_left, left, right],
-            Node::Level {
-                from_below,
-                lower,
-                upper,
-            } => [3, from_below, lower, upper],
+            Node::Saw(cut) => {
+                let kind = match cut.orientation {
+                    Orientation::Upright => 2,
+                    Orientation::Level => 3,
+                };
+                [kind, cut.at, cut.first, cut.second]
+            }
         }
     }
 }
+
+impl fmt::Display for UnknownKind {
+    fn fmt<W: fmt::Write>(&self, f: &mut fmt::Formatter<W>) -> fmt::Result {
+        write!(f, "no node is of kind {}", self.0)
+    }
+}
+
+impl Error for UnknownKind {}

@@ -2,8 +2,11 @@
 ghost use Rattle.std.specs.Prelude.{◌≡◌};
 ghost use Rattle.ways.specs.Refusals.{number_of, place_of};
 
+use std::error::Error;
+use std::fmt;
+
 // The refusals in the order in which they are looked for. Places count from 0.
-#[derive(Clone, Copy, Debug, PartialEq)]
+#[derive(Clone, Copy, Debug, PartialEq, Eq)]
 pub enum Refusal {
     // The sheet isn't 1 to 60 wide.
     Wide,
@@ -45,3 +48,24 @@ impl Refusal {
         }
     }
 }
+
+impl fmt::Display for Refusal {
+    fn fmt<W: fmt::Write>(&self, f: &mut fmt::Formatter<W>) -> fmt::Result {
+        let (number, place) = (self.number(), self.place());
+        let words = match self {
+            Refusal::Wide => "the sheet's width has to be 1 to 60",
+            Refusal::High => "the sheet's height has to be 1 to 60",
+            Refusal::Blade => "the blade may take 60 at most",
+            Refusal::Piece(_) => {
+                "there may be sixteen pieces, each at least 1 wide and high and worth 100000 at most"
+            }
+            Refusal::Room(_) => "the room has to have eight numbers for each square of the sheet",
+            Refusal::Line(_) => {
+                "a job has one line 'sheet WIDE HIGH blade BLADE' and lines 'piece NAME WIDE HIGH WORTH'"
+            }
+        };
+        write!(f, "refused {number} at {place}: {words}")
+    }
+}
+
+impl Error for Refusal {}

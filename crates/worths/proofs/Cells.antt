@@ -1,9 +1,10 @@
 -- Where a part stands in the table. Assumes nothing.
 use Rattle.std.proofs.Common.{◌≡◌, ℕ, zero, suc, ◌<◌, ◌≤◌, ◌≢◌, ◌⊎◌, List, length, get_or, set, refl, inl, inr, arith, get_or-set_other, get_or-set_same}
+use Rattle.ways.specs.declared.parts.Orientation.{Orientation}
+use Rattle.ways.specs.declared.parts.Orientation.TheVariants.{Upright, Level}
+use Rattle.ways.specs.declared.parts.Part.{Part}
 use Rattle.worths.specs.Cuts.{part_of}
-use Rattle.worths.specs.Table.{place_of, cell}
-use Rattle.worths.specs.declared.Orientation.{Orientation}
-use Rattle.worths.specs.declared.Orientation.TheVariants.{Upright, Level}
+use Rattle.worths.specs.Table.{place_of, HasPlace, cell}
 
 pub cell_empty : (xs : List ℕ) (w h : ℕ) → (w ≡ 0) ⊎ (h ≡ 0) → cell xs w h ≡ 0
 unfolding cell
@@ -12,9 +13,16 @@ cell_empty xs (suc w) zero e = refl
 cell_empty xs (suc w) (suc h) (inl e) = absurd (omega arith)
 cell_empty xs (suc w) (suc h) (inr e) = absurd (omega arith)
 
-pub part_empty : (o : Orientation) (xs : List ℕ) (w h : ℕ) → part_of o xs w h 0 ≡ 0
-part_empty Upright xs w h = cell_empty xs 0 h (inl refl)
-part_empty Level xs w h = cell_empty xs w 0 (inr refl)
+-- a part without a place is empty, if no side is above 60
+pub cell_of_none : (xs : List ℕ) (w h : ℕ) → w ≤ 60 → h ≤ 60 → (HasPlace (record { wide = w; high = h }) → ⊥) → cell xs w h ≡ 0
+unfolding cell
+cell_of_none xs zero h a b none = refl
+cell_of_none xs (suc w) zero a b none = refl
+cell_of_none xs (suc w) (suc h) a b none = absurd (none (omega arith, a, omega arith, b))
+
+pub part_empty : (o : Orientation) (xs : List ℕ) (p : Part) → part_of o xs p 0 ≡ 0
+part_empty Upright xs p = cell_empty xs 0 p.high (inl refl)
+part_empty Level xs p = cell_empty xs p.wide 0 (inr refl)
 
 pub cell_at : (xs : List ℕ) (w h : ℕ) → 1 ≤ w → 1 ≤ h → get_or xs (place_of w h) 0 ≡ cell xs w h
 unfolding cell

@@ -2,6 +2,9 @@
 use Rattle.std.proofs.Common.{◌≡◌, ℕ, ◌+◌, ◌<◌, ◌≤◌, List, length, set, refl, inl, inr, ⊎_elim, arith}
 use Rattle.std.proofs.lemmas.Bool.{cases_lt}
 use Rattle.ways.specs.declared.input.Piece.{Piece}
+use Rattle.ways.specs.declared.parts.Orientation.{Orientation}
+use Rattle.ways.specs.declared.parts.Orientation.TheVariants.{Upright, Level}
+use Rattle.ways.specs.Parts.{side_of, with_side}
 use Rattle.ways.specs.Sheet.{Way}
 use Rattle.worths.specs.Reckoned.{Most, AddsUp}
 use Rattle.worths.specs.Table.{place_of, Right}
@@ -22,6 +25,13 @@ module _ (reckoned : ℕ → ℕ → ℕ → Way → ℕ) (ps : List Piece) wher
 
     pub lower_none : (w : ℕ) → Lower w 1 t
     lower_none w y lt = let e : y ≡ 0 = omega arith in rw (e, cell_empty t.cells w 0 (inr refl)) (empty_high _ leaf _ ps adds small w)
+
+  -- all parts to which a cut can shorten a part are done before it
+  pub smaller_done :
+      (high w h : ℕ) (t : Values) → h ≤ high → Narrower high w t → Lower w h t → (o : Orientation) (x : ℕ) → x < side_of o w h →
+      Right reckoned ps t (with_side o (record { wide = w; high = h }) x).wide (with_side o (record { wide = w; high = h }) x).high
+  smaller_done high w h t le narrower lower Upright x lt = narrower x h lt le
+  smaller_done high w h t le narrower lower Level y lt = lower y lt
 
   -- a width is done when all its heights are
   pub narrower_more : (high w h : ℕ) (t : Values) → high < h → Narrower high w t → Lower w h t → Narrower high (w + 1) t

@@ -1,12 +1,15 @@
 -- A cut that was looked for, as the table says it. Assumes nothing.
-use Rattle.std.proofs.Common.{◌≡◌, ℕ, ◌≤◌, ◌&&◌, leb, Some, None, Option, sym, ◌∙◌, arith}
+use Rattle.std.proofs.Common.{◌≡◌, ℕ, ◌+◌, ◌-◌, ◌≤◌, ◌&&◌, leb, Some, None, Option, sym, refl, ◌∙◌}
 use Rattle.std.proofs.lemmas.Bool.{and_parts, leb-true}
-use Rattle.ways.proofs.Judging.{cond_some}
-use Rattle.worths.specs.Cuts.{side_of, part_of}
-use Rattle.worths.specs.Found.{Reaching, CutFound}
-use Rattle.worths.specs.Table.{cell, value_at}
-use Rattle.worths.specs.declared.finding.Cut.{Cut}
-use Rattle.worths.specs.declared.Orientation.{Orientation}
+use Rattle.std.proofs.lemmas.Option.{cond_some, none-some}
+use Rattle.ways.proofs.Cuts.{cut_ok_parts}
+use Rattle.ways.specs.Parts.{side_of, with_side}
+use Rattle.ways.specs.declared.parts.Orientation.{Orientation}
+use Rattle.ways.specs.declared.parts.Orientation.TheVariants.{Upright, Level}
+use Rattle.ways.specs.declared.parts.Part.{Part}
+use Rattle.worths.specs.Cuts.{part_of}
+use Rattle.worths.specs.Found.{Reaching, FoundCut, CutFound}
+use Rattle.worths.specs.Table.{cell, value_at, HasPlace}
 use Rattle.worths.specs.declared.Values.{Values}
 use Rattle.worths.proofs.Says.{value_there}
 
@@ -14,21 +17,47 @@ use Rattle.worths.proofs.Says.{value_there}
 pub value_said : (t : Values) (w h v : ℕ) → Some v ≡ value_at t w h → (w ≤ t.sheet.wide) × (h ≤ t.sheet.high) × (v ≡ cell t.cells w h)
 unfolding value_at
 value_said t w h v e =
-    let said = cond_some (leb w t.sheet.wide && leb h t.sheet.high) v (cell t.cells w h) e in
+    let said = cond_some (leb w t.sheet.wide && leb h t.sheet.high) (cell t.cells w h) v (sym e) in
     let both = and_parts (leb w t.sheet.wide) (leb h t.sheet.high) said.0 in
-    (leb-true w t.sheet.wide both.0, leb-true h t.sheet.high both.1, said.1)
+    (leb-true w t.sheet.wide both.0, leb-true h t.sheet.high both.1, sym said.1)
 
 pub value_missing : (t : Values) (w h : ℕ) → w ≤ t.sheet.wide → h ≤ t.sheet.high → None ≡ value_at t w h → ⊥
-value_missing t w h p q e = let there = value_there t w h p q in let z : ◌≡◌ {A = ℕ} 0 1 = cc in omega arith
+value_missing t w h p q e = none-some _ (e ∙ value_there t w h p q)
 
--- a cut that is looked for where something is said of the part, and where nothing is
-module _ (t : Values) (o : Orientation) (w h : ℕ) where
-  pub cut_found :
-      (v : ℕ) (r : Option Cut) → Some v ≡ value_at t w h → 1 ≤ w → 1 ≤ h → Reaching (part_of o t.cells w h) t.sheet.blade (side_of o w h) v r → CutFound t o w h r
-  cut_found v (Some c) e some_wide some_high found =
-      let said = value_said t w h v e in
-      (record { some_wide = some_wide; some_high = some_high; narrow = said.0; low = said.1 }, (found.0, found.1, found.2 ∙ said.2))
-  cut_found v None e some_wide some_high found = λ inside x good sum. found x good (sum ∙ sym (value_said t w h v e).2)
+side_low : (o : Orientation) (p : Part) → HasPlace p → side_of o p.wide p.high ≤ 60
+side_low Upright p place = place.1
+side_low Level p place = place.3
 
-  pub cut_beyond : None ≡ value_at t w h → CutFound t o w h None
-  cut_beyond e inside x good sum = value_missing t w h inside.narrow inside.low e
+module _ (t : Values) (o : Orientation) (p : Part) where
+  -- something is said of a part of the sheet
+  pub cut_beyond : None ≡ value_at t p.wide p.high → CutFound t o p None
+  cut_beyond e inside x good sum = value_missing t p.wide p.high inside.narrow inside.low e
+
+  -- what is found at the place of a part
+  module _ (q : Part) (same : q ≡ p) (place : HasPlace q) (v : ℕ) where
+    abbrev pub Reached : Option ℕ → Type 0
+    Reached r = Reaching (part_of o t.cells q) t.sheet.blade (side_of o q.wide q.high) v r
+
+    -- the cut is within its side
+    pub cut_within : (x : ℕ) → Reached (Some x) → (x + t.sheet.blade ≤ side_of o p.wide p.high) × (side_of o p.wide p.high ≤ 60)
+    cut_within x found = (rw (← same) (cut_ok_parts t.sheet.blade (side_of o q.wide q.high) x found.0).fits, rw (← same) (side_low o q place))
+
+    module _ (said : Some v ≡ value_at t p.wide p.high) where
+      pub cut_missing : Reached None → CutFound t o p None
+      cut_missing none inside x good sum = (rw same at none) x good (sum ∙ sym (value_said t p.wide p.high v said).2)
+
+      pub cut_found :
+          (x : ℕ) → Reached (Some x) →
+          FoundCut t o p (record { orientation = o; at = x; first = with_side o p x; second = with_side o p (side_of o p.wide p.high - (x + t.sheet.blade)) })
+      cut_found x found =
+          let inside = value_said t p.wide p.high v said in
+          let there = rw same at place in
+          let reached = rw same at found in
+          record {
+            inside = record { some_wide = there.0; some_high = there.2; narrow = inside.0; low = inside.1 };
+            oriented = refl;
+            allowed = reached.0;
+            first = refl;
+            second = refl;
+            sum = reached.1 ∙ inside.2;
+          }

@@ -6,4 +6,3 @@ pub mod Filling
 pub mod Fitting
 pub mod Found
 pub mod Reached
-pub mod Which

@@ -1,8 +1,12 @@
 -- What a part is worth, from what smaller parts are worth. Assumes nothing.
 use Rattle.std.proofs.Common.{◌≡◌, ℕ, ◌+◌, ◌-◌, ◌*◌, ◌<◌, ◌≤◌, true, List, sym, refl, ◌∙◌, ⊎_elim, mul-le-mul, mul-zero, zero-mul, arith}
-use Rattle.ways.specs.declared.input.Piece.{Piece}
+use Rattle.ways.specs.Parts.{side_of, with_side, sawn}
 use Rattle.ways.specs.Sheet.{Way, scrap, take, upright, level, can}
-use Rattle.ways.proofs.Cuts.{cut_ok_parts, cut_ok_from, upright_parts, upright_from, level_parts, level_from}
+use Rattle.ways.specs.declared.input.Piece.{Piece}
+use Rattle.ways.specs.declared.parts.Orientation.{Orientation}
+use Rattle.ways.specs.declared.parts.Orientation.TheVariants.{Upright, Level}
+use Rattle.ways.specs.declared.parts.Part.{Part}
+use Rattle.ways.proofs.Cuts.{cut_ok_parts, cut_ok_from, sawn_parts, sawn_from, sawn_adds}
 use Rattle.ways.proofs.Within.{within, squares_split}
 use Rattle.worths.specs.Cuts.{BestCut}
 use Rattle.worths.specs.Reckoned.{Most, AddsUp}
@@ -27,7 +31,7 @@ module _ (reckoned : ℕ → ℕ → Way → ℕ) (leaf : ℕ → ℕ → ℕ) (
         within blade ps reckoned (λ w h. 100000 * (w * h)) adds.cuts (squares_split blade 100000)
         (λ w h. omega (arith, adds.scraps w h, small w h)) (λ w h k e. omega (arith, adds.takes w h k e, small w h))
 
-    pub most_low : (w h v : ℕ) → w ≤ 60 → h ≤ 60 → Most reckoned blade ps w h v → v ≤ 360000000
+    most_low : (w h v : ℕ) → w ≤ 60 → h ≤ 60 → Most reckoned blade ps w h v → v ≤ 360000000
     most_low w h v a b t = let squares : w * h ≤ 60 * 60 = mul-le-mul a b in omega (arith, t.worth, bound w h t.way t.able)
 
     -- an empty part is worth nothing
@@ -47,44 +51,46 @@ module _ (reckoned : ℕ → ℕ → Way → ℕ) (leaf : ℕ → ℕ → ℕ) (
     pub empty_high : (w : ℕ) → Most reckoned blade ps w 0 0
     empty_high w = most_empty w 0 (mul-zero w)
 
-  module _ (w h : ℕ) (f g : ℕ → ℕ) (narrower : (x : ℕ) → x < w → Most reckoned blade ps x h (f x)) (lower : (y : ℕ) → y < h → Most reckoned blade ps w y (g y)) where
-    got_upright : (p u : ℕ) → Got w h p → BestCut f blade w p u → Got w h u
-    got_upright p u got best =
+  -- f is what the parts are worth to which a cut can shorten a part
+  module _ (p : Part) (f : Orientation → ℕ → ℕ)
+      (smaller : (o : Orientation) (x : ℕ) → x < side_of o p.wide p.high → Most reckoned blade ps (with_side o p x).wide (with_side o p x).high (f o x)) where
+    pub parts_low : Small leaf → p.wide ≤ 60 → p.high ≤ 60 → (o : Orientation) (x : ℕ) → x < side_of o p.wide p.high → f o x ≤ 360000000
+    parts_low small a b Upright x lt = most_low small x p.high _ (omega arith) b (smaller Upright x lt)
+    parts_low small a b Level y lt = most_low small p.wide y _ a (omega arith) (smaller Level y lt)
+
+    got_cut : (o : Orientation) (u r : ℕ) → Got p.wide p.high u → BestCut (f o) blade (side_of o p.wide p.high) u r → Got p.wide p.high r
+    got_cut o u r got best =
         ⊎_elim (λ e. (got.0, got.1, got.2 ∙ sym e))
         (λ q.
         let x = q.0 in
-        let c = cut_ok_parts blade w x q.1 in
-        let a = narrower x c.proper in
-        let b = narrower (w - (x + blade)) (omega arith) in
-        (upright x a.way b.way, upright_from blade ps w h x a.way b.way c a.able b.able, omega (arith, adds.cuts.uprights w h x a.way b.way, a.worth, b.worth, q.2)))
+        let c = cut_ok_parts blade (side_of o p.wide p.high) x q.1 in
+        let a = smaller o x c.proper in
+        let b = smaller o (side_of o p.wide p.high - (x + blade)) (omega arith) in
+        (sawn o x a.way b.way, sawn_from blade ps o p x a.way b.way c a.able b.able, omega (arith, sawn_adds blade reckoned adds.cuts o p x a.way b.way, a.worth, b.worth, q.2)))
         best.came
 
-    got_level : (p u : ℕ) → Got w h p → BestCut g blade h p u → Got w h u
-    got_level p u got best =
-        ⊎_elim (λ e. (got.0, got.1, got.2 ∙ sym e))
-        (λ q.
-        let y = q.0 in
-        let c = cut_ok_parts blade h y q.1 in
-        let a = lower y c.proper in
-        let b = lower (h - (y + blade)) (omega arith) in
-        (level y a.way b.way, level_from blade ps w h y a.way b.way c a.able b.able, omega (arith, adds.cuts.levels w h y a.way b.way, a.worth, b.worth, q.2)))
-        best.came
-
-    none_more : (p u r : ℕ) → p ≡ leaf w h → BestCut f blade w p u → BestCut g blade h u r → (b : Way) → can blade ps w h b ≡ true → reckoned w h b ≤ r
-    unfolding can
-    none_more p u r lies uprights levels scrap e = omega (arith, adds.scraps w h, uprights.least, levels.least)
-    none_more p u r lies uprights levels (take k) e = omega (arith, adds.takes w h k e, uprights.least, levels.least)
-    none_more p u r lies uprights levels (upright x a b) e =
-        let q = upright_parts blade ps w h x a b e in
+    no_cut_more :
+        (o : Orientation) (u r x : ℕ) (a b : Way) → BestCut (f o) blade (side_of o p.wide p.high) u r → can blade ps p.wide p.high (sawn o x a b) ≡ true →
+        reckoned p.wide p.high (sawn o x a b) ≤ r
+    no_cut_more o u r x a b best e =
+        let q = sawn_parts blade ps o p x a b e in
         let c = q.0 in
-        omega (arith, adds.cuts.uprights w h x a b, (narrower x c.proper).tops a q.1, (narrower (w - (x + blade)) (omega arith)).tops b q.2, uprights.most x (cut_ok_from blade w x c), levels.least)
-    none_more p u r lies uprights levels (level y a b) e =
-        let q = level_parts blade ps w h y a b e in
-        let c = q.0 in
-        omega (arith, adds.cuts.levels w h y a b, (lower y c.proper).tops a q.1, (lower (h - (y + blade)) (omega arith)).tops b q.2, levels.most y (cut_ok_from blade h y c))
+        omega (
+          arith,
+          sawn_adds blade reckoned adds.cuts o p x a b,
+          (smaller o x c.proper).tops a q.1,
+          (smaller o (side_of o p.wide p.high - (x + blade)) (omega arith)).tops b q.2,
+          best.most x (cut_ok_from blade (side_of o p.wide p.high) x c),
+        )
 
-    -- the best of what lies there uncut and of all cuts
-    pub most_of : (p u r : ℕ) → p ≡ leaf w h → BestCut f blade w p u → BestCut g blade h u r → Most reckoned blade ps w h r
-    most_of p u r lies uprights levels =
-        let got = got_level u r (got_upright p u (rw lies (got_leaf w h)) uprights) levels in
-        record { way = got.0; able = got.1; worth = got.2; tops = none_more p u r lies uprights levels }
+    module _ (u r : ℕ) (uprights : BestCut (f Upright) blade p.wide (leaf p.wide p.high) u) (levels : BestCut (f Level) blade p.high u r) where
+      none_more : (b : Way) → can blade ps p.wide p.high b ≡ true → reckoned p.wide p.high b ≤ r
+      unfolding can
+      none_more scrap e = omega (arith, adds.scraps p.wide p.high, uprights.least, levels.least)
+      none_more (take k) e = omega (arith, adds.takes p.wide p.high k e, uprights.least, levels.least)
+      none_more (upright x a b) e = omega (arith, no_cut_more Upright _ u x a b uprights e, levels.least)
+      none_more (level y a b) e = no_cut_more Level u r y a b levels e
+
+      -- the best of what lies there uncut and of all cuts
+      pub most_of : Most reckoned blade ps p.wide p.high r
+      most_of = let got = got_cut Level u r (got_cut Upright _ u (got_leaf p.wide p.high) uprights) levels in record { way = got.0; able = got.1; worth = got.2; tops = none_more }

@@ -20,14 +20,15 @@ module _ (f : ℕ → ℕ) (blade side v : ℕ) where
   none_more x p q first second other from y le half sum =
       ⊎_elim (λ (more : x < y). from y (omega arith) half sum) (λ (same : y ≤ x). let e : y ≡ x = omega arith in other (omega (arith, rw e at sum))) (cases_lt x y)
 
-  pub reached : (x p q : ℕ) → 1 ≤ x → x + x ≤ side - blade → p ≡ f x → q ≡ f (side - blade - x) → p + q ≡ v → Reaching f blade side v (Some (record { at = x; beyond = side - blade - x }))
-  reached x p q some half first second sum = (cut_ok_from blade side x (record { some = some; fits = omega arith; proper = omega arith }), beyond_is x, omega arith)
+  pub reached : (x p q : ℕ) → 1 ≤ x → x + x ≤ side - blade → p ≡ f x → q ≡ f (side - blade - x) → p + q ≡ v → Reaching f blade side v (Some x)
+  reached x p q some half first second sum = (cut_ok_from blade side x (record { some = some; fits = omega arith; proper = omega arith }), rw (← beyond_is x) (omega arith))
 
   -- the cut that leaves nothing beyond the blade is looked at last
   module _ (empty : f 0 ≡ 0) (long : blade < side) where
-    pub reached_whole : (p : ℕ) → 1 ≤ blade → p ≡ f (side - blade) → p ≡ v → Reaching f blade side v (Some (record { at = side - blade; beyond = 0 }))
+    pub reached_whole : (p : ℕ) → 1 ≤ blade → p ≡ f (side - blade) → p ≡ v → Reaching f blade side v (Some (side - blade))
     reached_whole p thick whole is =
-        (cut_ok_from blade side (side - blade) (record { some = omega arith; fits = omega arith; proper = omega arith }), omega arith, omega arith)
+        let nothing : side - (side - blade + blade) ≡ 0 = omega arith in
+        (cut_ok_from blade side (side - blade) (record { some = omega arith; fits = omega arith; proper = omega arith }), rw (nothing, empty) (omega arith))
 
     -- a cut of the farther half is the mirror of one in the nearer
     pub none_at_all : NoneFrom 1 → (1 ≤ blade → f (side - blade) ≡ v → ⊥) → Reaching f blade side v None

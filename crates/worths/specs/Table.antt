@@ -2,12 +2,17 @@
 use Rattle.std.specs.Prelude.{ℕ, zero, suc, ◌+◌, ◌-◌, ◌*◌, ◌≤◌, cond, ◌&&◌, List, Some, None, Option, nat_le, slice_index}
 use Rattle.ways.specs.Sheet.{Way}
 use Rattle.ways.specs.declared.input.Piece.{Piece}
+use Rattle.ways.specs.declared.parts.Part.{Part}
 use Rattle.worths.specs.Reckoned.{Most}
 use Rattle.worths.specs.declared.Values.{Values}
 
 -- where the number for a part so wide and so high stands: 60 heights for each width
 abbrev pub place_of : (wide high : ℕ) → ℕ
 place_of w h = (w - 1) * 60 + (h - 1)
+
+-- a part has such a place: it isn't empty, and no side is above 60
+abbrev pub HasPlace : Part → Type 0
+HasPlace p = (1 ≤ p.wide) × (p.wide ≤ 60) × (1 ≤ p.high) × (p.high ≤ 60)
 
 -- the number for a part; an empty one has no place, and 0 stands for it
 unfoldable pub cell : List ℕ → (wide high : ℕ) → ℕ

@@ -1,65 +1,51 @@
 // A cut of a part whose two parts are together worth what the part is, by the table.
-ghost use Rattle.std.specs.Prelude.{◌≤◌};
-ghost use Rattle.worths.specs.Cuts.{side_of, part_of};
+ghost use Rattle.ways.specs.Parts.{side_of};
+ghost use Rattle.worths.specs.Cuts.{part_of};
 ghost use Rattle.worths.specs.Found.{Reaching, CutFound};
 
-use crate::{Orientation, Values, side};
-
-// A cut through a side: how far from its beginning, and what is left of the side beyond the blade.
-#[derive(Clone, Copy)]
-pub struct Cut {
-    pub at: usize,
-    pub beyond: usize,
-}
+use crate::Values;
+use crate::place::Place;
+use ways::{Cut, Orientation, Part};
 
 impl Values {
     // A cut of a part whose two parts are together worth what the part is, if there is one of that orientation. None is answered of
     // an empty part, and of one that is wider or higher than the sheet.
-    pub fn find_cut(&self, orientation: Orientation, wide: usize, high: usize) -> Option<Cut>
-        ensures { CutFound self.now orientation wide high result }
+    pub fn find_cut(&self, orientation: Orientation, part: Part) -> Option<Cut<Part>>
+        ensures { CutFound self.now orientation part result }
     {
-        if wide == 0 || high == 0 {
-            return None;
-        }
-        let worth = self.worth(wide, high)?;
-        self.cut_worth(orientation, wide, high, worth)
+        let place = Place::of(part)?;
+        let worth = self.worth(part)?;
+        let at = self.cut_worth(orientation, place, worth)?;
+        let beyond = part.side(orientation) - (at + self.sheet.blade());
+        Some(Cut {
+            orientation,
+            at: at as u16,
+            first: part.with_side(orientation, at),
+            second: part.with_side(orientation, beyond),
+        })
     }
 
-    // The cut nearest to the middle, of that orientation, whose two parts are worth so much together. It is found in the nearer
-    // half, since its mirror is worth the same; the cut that leaves nothing on the other side comes last.
-    fn cut_worth(
-        &self,
-        orientation: Orientation,
-        wide: usize,
-        high: usize,
-        worth: u32,
-    ) -> Option<Cut>
-        requires wide { (1 ≤ wide) × (wide ≤ 60) }
-        requires high { (1 ≤ high) × (high ≤ 60) }
-        ensures { Reaching (part_of orientation self.now.cells wide high) self.now.sheet.blade (side_of orientation wide high) worth result }
+    // Where the cut nearest to the middle is, of that orientation, whose two parts are worth so much together. It is found in the
+    // nearer half, since its mirror is worth the same; the cut that leaves nothing on the other side comes last.
+    fn cut_worth(&self, orientation: Orientation, place: Place, worth: u32) -> Option<usize>
+        ensures { Reaching (part_of orientation self.now.cells place.part) self.now.sheet.blade (side_of orientation place.part.wide place.part.high) worth result }
     {
-        let side = side(orientation, wide, high);
+        let side = place.part.side(orientation);
         let blade = self.sheet.blade();
         if side <= blade {
             return None;
         }
         let wood = side - blade;
         for x in (1..wood / 2 + 1).rev() {
-            let first = self.part(orientation, wide, high, x);
-            let second = self.part(orientation, wide, high, wood - x);
+            let first = self.part(orientation, place, x);
+            let second = self.part(orientation, place, wood - x);
             if first as u64 + second as u64 == worth as u64 {
-                return Some(Cut {
-                    at: x,
-                    beyond: wood - x,
-                });
+                return Some(x);
             }
         }
         let ends_in_the_blade = blade >= 1;
-        if ends_in_the_blade && self.part(orientation, wide, high, wood) == worth {
-            return Some(Cut {
-                at: wood,
-                beyond: 0,
-            });
+        if ends_in_the_blade && self.part(orientation, place, wood) == worth {
+            return Some(wood);
         }
         None
     }

@@ -2,26 +2,26 @@
 #![tactic(auto)]
 
 ghost use Rattle.std.specs.Prelude.{◌≡◌, ℕ, ◌<◌, ◌≤◌, Some};
+ghost use Rattle.ways.specs.Parts.{side_of, with_side};
 ghost use Rattle.ways.specs.View.{pieces_of};
-ghost use Rattle.worths.specs.Cuts.{side_of, part_of, BestCut};
+ghost use Rattle.ways.specs.declared.parts.Orientation.{Orientation};
+ghost use Rattle.worths.specs.Cuts.{part_of, BestCut};
 ghost use Rattle.worths.specs.Pieces.{WorthIs, WorthsAre};
 ghost use Rattle.worths.specs.Reckoned.{Most};
-ghost use Rattle.worths.specs.Table.{place_of, cell, value_at, Right, ValuesAre};
+ghost use Rattle.worths.specs.Table.{cell, value_at, Right, ValuesAre};
 
 mod finding;
 mod lies;
 mod pieces;
+mod place;
 mod uncut;
 
-pub use finding::Cut;
 pub use lies::Lying;
+use place::Place;
 pub use uncut::Uncut;
-use ways::{Pieces, Sheet};
+use ways::{Orientation, Part, Pieces, Sheet};
 
-// How many heights the table has for each width.
-const HEIGHTS: usize = 60;
-
-// How many numbers it has: 60 widths of 60 heights.
+// How many numbers the table has: 60 widths of 60 heights.
 const CELLS: usize = 3600;
 
 // What a sheet, and each that is no wider and no higher, is worth.
@@ -29,13 +29,6 @@ const CELLS: usize = 3600;
 pub struct Values {
     sheet: Sheet,
     cells: [u32; CELLS],
-}
-
-// An upright cut shortens the width, a level one the height.
-#[derive(Clone, Copy)]
-pub enum Orientation {
-    Upright,
-    Level,
 }
 
 // What a sheet is worth for these pieces.
@@ -64,26 +57,27 @@ pub fn values_of<U: Uncut>(sheet: Sheet, uncut: &U) -> Values
     };
     for wide in 1..sheet.wide() + 1 {
         for high in 1..sheet.high() + 1 {
-            let worth = part_worth(&values, uncut, wide, high);
-            values.cells[place(wide, high)] = worth;
+            let place = Place {
+                part: Part { wide, high },
+            };
+            let worth = part_worth(&values, uncut, place);
+            values.cells[place.index()] = worth;
         }
     }
     values
 }
 
 impl Values {
-    // What a part so wide and so high is worth, if it is no wider and no higher than the sheet. An empty one is worth nothing.
-    pub fn worth(&self, wide: usize, high: usize) -> Option<u32>
-        ensures { result ≡ value_at self.now wide high }
+    // What a part is worth, if it is no wider and no higher than the sheet. An empty one is worth nothing.
+    pub fn worth(&self, part: Part) -> Option<u32>
+        ensures { result ≡ value_at self.now part.wide part.high }
     {
-        let widest = self.sheet.wide();
-        let highest = self.sheet.high();
-        if wide > widest || high > highest {
-            None
-        } else if wide == 0 || high == 0 {
-            Some(0)
-        } else {
-            Some(self.cell(wide, high))
+        if part.wide > self.sheet.wide() || part.high > self.sheet.high() {
+            return None;
+        }
+        match Place::of(part) {
+            Some(place) => Some(self.cell(place)),
+            None => Some(0),
         }
     }
 
@@ -91,39 +85,33 @@ impl Values {
     pub fn whole(&self) -> u32
         ensures { value_at self.now self.now.sheet.wide self.now.sheet.high ≡ Some result }
     {
-        self.cell(self.sheet.wide(), self.sheet.high())
+        let part = self.sheet.whole();
+        self.cell(Place { part })
     }
 
-    fn cell(&self, wide: usize, high: usize) -> u32
-        requires wide { (1 ≤ wide) × (wide ≤ 60) }
-        requires high { (1 ≤ high) × (high ≤ 60) }
-        ensures { result ≡ cell self.now.cells wide high }
+    fn cell(&self, place: Place) -> u32
+        ensures { result ≡ cell self.now.cells place.part.wide place.part.high }
     {
-        self.cells[place(wide, high)]
+        self.cells[place.index()]
     }
 
     // What the part is worth to which a cut shortens one side.
-    fn part(&self, orientation: Orientation, wide: usize, high: usize, side: usize) -> u32
-        requires wide { (1 ≤ wide) × (wide ≤ 60) }
-        requires high { (1 ≤ high) × (high ≤ 60) }
-        requires side { (1 ≤ side) × (side ≤ 60) }
-        ensures { result ≡ part_of orientation self.now.cells wide high side }
+    fn part(&self, orientation: Orientation, place: Place, side: usize) -> u32
+        requires { (1 ≤ side) × (side ≤ 60) }
+        ensures { result ≡ part_of orientation self.now.cells place.part side }
     {
-        match orientation {
-            Orientation::Upright => self.cell(side, high),
-            Orientation::Level => self.cell(wide, side),
-        }
+        self.cell(Place {
+            part: place.part.with_side(orientation, side),
+        })
     }
 
     // The better of `before` and the best of all cuts of that orientation. A cut that leaves something on both sides is tried
     // in the nearer half only, since its mirror is worth the same; one that leaves nothing on the other side is tried by itself.
-    fn best_cut(&self, orientation: Orientation, wide: usize, high: usize, before: u32) -> u32
-        requires wide { (1 ≤ wide) × (wide ≤ 60) }
-        requires high { (1 ≤ high) × (high ≤ 60) }
-        requires low { (x : ℕ) → x < side_of orientation wide high → part_of orientation self.now.cells wide high x ≤ 360000000 }
-        ensures { BestCut (part_of orientation self.now.cells wide high) self.now.sheet.blade (side_of orientation wide high) before result }
+    fn best_cut(&self, orientation: Orientation, place: Place, before: u32) -> u32
+        requires { (x : ℕ) → x < side_of orientation place.part.wide place.part.high → part_of orientation self.now.cells place.part x ≤ 360000000 }
+        ensures { BestCut (part_of orientation self.now.cells place.part) self.now.sheet.blade (side_of orientation place.part.wide place.part.high) before result }
     {
-        let side = side(orientation, wide, high);
+        let side = place.part.side(orientation);
         let blade = self.sheet.blade();
         if side <= blade {
             return before;
@@ -132,45 +120,23 @@ impl Values {
         let may_leave_nothing = blade >= 1;
         let mut best = before;
         if may_leave_nothing {
-            best = best.max(self.part(orientation, wide, high, rest));
+            best = best.max(self.part(orientation, place, rest));
         }
         for x in 1..rest / 2 + 1 {
-            let first = self.part(orientation, wide, high, x);
-            let second = self.part(orientation, wide, high, rest - x);
+            let first = self.part(orientation, place, x);
+            let second = self.part(orientation, place, rest - x);
             best = best.max(first + second);
         }
         best
     }
 }
 
-// Where the number for a part stands.
-fn place(wide: usize, high: usize) -> usize
-    requires wide { (1 ≤ wide) × (wide ≤ 60) }
-    requires high { (1 ≤ high) × (high ≤ 60) }
-    ensures { result ≡ place_of wide high }
-{
-    (wide - 1) * HEIGHTS + (high - 1)
-}
-
-// The side that a cut shortens.
-fn side(orientation: Orientation, wide: usize, high: usize) -> usize
-    ensures { result ≡ side_of orientation wide high }
-{
-    match orientation {
-        Orientation::Upright => wide,
-        Orientation::Level => high,
-    }
-}
-
 // What a part is worth, from what smaller ones are.
-fn part_worth<U: Uncut>(values: &Values, uncut: &U, wide: usize, high: usize) -> u32
-    requires wide { (1 ≤ wide) × (wide ≤ 60) }
-    requires high { (1 ≤ high) × (high ≤ 60) }
-    requires narrower { (x : ℕ) → x < wide → Right (U.reckoned uncut.now) (U.pieces uncut.now) values.now x high }
-    requires lower { (y : ℕ) → y < high → Right (U.reckoned uncut.now) (U.pieces uncut.now) values.now wide y }
-    ensures { Most (U.reckoned uncut.now values.now.sheet.blade) values.now.sheet.blade (U.pieces uncut.now) wide high result }
+fn part_worth<U: Uncut>(values: &Values, uncut: &U, place: Place) -> u32
+    requires { (o : Orientation) (x : ℕ) → x < side_of o place.part.wide place.part.high → let q = with_side o place.part x in Right (U.reckoned uncut.now) (U.pieces uncut.now) values.now q.wide q.high }
+    ensures { Most (U.reckoned uncut.now values.now.sheet.blade) values.now.sheet.blade (U.pieces uncut.now) place.part.wide place.part.high result }
 {
-    let whole = uncut.uncut_worth(wide, high);
-    let upright = values.best_cut(Orientation::Upright, wide, high, whole);
-    values.best_cut(Orientation::Level, wide, high, upright)
+    let whole = uncut.uncut_worth(place.part);
+    let upright = values.best_cut(Orientation::Upright, place, whole);
+    values.best_cut(Orientation::Level, place, upright)
 }

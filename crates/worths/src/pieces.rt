@@ -6,7 +6,7 @@ ghost use Rattle.worths.specs.Pieces.{best_fit};
 ghost use Rattle.worths.specs.Laws.{pieces_add_up, best_small};
 
 use crate::uncut::Uncut;
-use ways::{Piece, Pieces};
+use ways::{Part, Piece, Pieces};
 
 impl Uncut for Pieces {
     ghost pieces = { λ s. pieces_of s };
@@ -19,20 +19,19 @@ impl Uncut for Pieces {
 
     ghost small = { λ s w h. best_small _ s.ok w h };
 
-    fn uncut_worth(&self, wide: usize, high: usize) -> u32 {
-        best_piece(self.as_slice(), wide, high)
+    fn uncut_worth(&self, part: Part) -> u32 {
+        best_piece(self.as_slice(), part)
     }
 }
 
-// What the best of the pieces that are just so wide and so high is worth, or 0.
-pub(crate) fn best_piece(pieces: &[Piece], wide: usize, high: usize) -> u32
-    ensures { result ≡ best_fit pieces.now wide high }
+// What the best of the pieces that fit a part is worth, or 0.
+pub(crate) fn best_piece(pieces: &[Piece], part: Part) -> u32
+    ensures { result ≡ best_fit pieces.now part.wide part.high }
 {
-    let mut best = 0;
-    for p in pieces {
-        if p.wide as usize == wide && p.high as usize == high {
-            best = p.worth.max(best);
-        }
-    }
-    best
+    pieces
+        .iter()
+        .filter(|p| p.fits(part))
+        .map(|p| p.worth)
+        .max()
+        .unwrap_or(0)
 }

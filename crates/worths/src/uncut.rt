@@ -4,6 +4,8 @@ ghost use Rattle.ways.specs.Sheet.{Way};
 ghost use Rattle.ways.specs.declared.input.Piece.{Piece};
 ghost use Rattle.worths.specs.Reckoned.{AddsUp};
 
+use ways::Part;
+
 pub trait Uncut {
     // The pieces that may lie there.
     ghost pieces: { Self → List Piece };
@@ -14,8 +16,8 @@ pub trait Uncut {
     // The most that a part so wide and so high is worth as it lies.
     ghost leaf: { Self → ℕ → ℕ → ℕ };
 
-    fn uncut_worth(&self, wide: usize, high: usize) -> u32
-        ensures { result ≡ leaf self.now wide high };
+    fn uncut_worth(&self, part: Part) -> u32
+        ensures { result ≡ leaf self.now part.wide part.high };
 
     // Worths add up over a cut, and scrap and pieces that fit are worth no more than `leaf`.
     ghost adds: { (u : Self) (blade : ℕ) → AddsUp (reckoned u blade) (leaf u) blade (pieces u) };

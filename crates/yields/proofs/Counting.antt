@@ -5,8 +5,11 @@ use Rattle.std.proofs.lemmas.Bool.{both_ways, cases_lt, cases_eq, eq-eqb, ne_eqb
 use Rattle.std.proofs.lemmas.Bool.Decides.{nat_tests}
 use Rattle.ways.specs.Adding.{Adds}
 use Rattle.ways.specs.Input.{pieces_ok}
-use Rattle.ways.specs.Sheet.{Way, scrap, take, upright, level, piece_fits, can}
+use Rattle.ways.specs.Parts.{sawn}
+use Rattle.ways.specs.Sheet.{Way, scrap, take, piece_fits, can}
 use Rattle.ways.specs.declared.input.Piece.{Piece}
+use Rattle.ways.specs.declared.parts.Orientation.{Orientation}
+use Rattle.ways.specs.declared.parts.Orientation.TheVariants.{Upright, Level}
 use Rattle.ways.proofs.Fits.{fits_ok, fits_past}
 use Rattle.ways.proofs.Within.{within, squares_split}
 use Rattle.yields.specs.Counts.{count_of}
@@ -17,39 +20,33 @@ abbrev pub Added : Way → (before after : List ℕ) → Type 0
 Added a before after = (k : ℕ) → get_or after k 0 ≡ get_or before k 0 + count_of k a
 
 -- a cut yields what its parts yield
-abbrev pub Joins : (cut : Way → Way → Way) → Type 0
-Joins cut = (k : ℕ) (p q : Way) → count_of k (cut p q) ≡ count_of k p + count_of k q
-
-pub upright_joins : (x : ℕ) → Joins (upright x)
+count_sawn : (o : Orientation) (x k : ℕ) (p q : Way) → count_of k (sawn o x p q) ≡ count_of k p + count_of k q
 unfolding count_of
-upright_joins x k p q = refl
-
-pub level_joins : (y : ℕ) → Joins (level y)
-unfolding count_of
-level_joins y k p q = refl
+count_sawn Upright x k p q = refl
+count_sawn Level y k p q = refl
 
 pub noughts : (n k : ℕ) → ◌≡◌ {A = ℕ} (get_or (replicate n 0) k 0) 0
 noughts zero k = refl
 noughts (suc n) zero = refl
 noughts (suc n) (suc k) = noughts n k
 
-module _ (cut : Way → Way → Way) (joins : Joins cut) (a p q : Way) (is : a ≡ cut p q) where
+module _ (o : Orientation) (x : ℕ) (a p q : Way) (is : a ≡ sawn o x p q) where
   pub room_first : (cs : List ℕ) → RoomFor a cs → RoomFor p cs
   room_first cs room =
       record {
-        place = λ k le. omega (arith, joins k p q, rw is at (room.place k le));
-        small = λ k. omega (arith, joins k p q, rw is at (room.small k));
+        place = λ k le. omega (arith, count_sawn o x k p q, rw is at (room.place k le));
+        small = λ k. omega (arith, count_sawn o x k p q, rw is at (room.small k));
       }
 
   pub room_second : (cs ds : List ℕ) → length ds ≡ length cs → Added p cs ds → RoomFor a cs → RoomFor q ds
   room_second cs ds long added room =
       record {
-        place = λ k le. omega (arith, joins k p q, rw is at (room.place k (omega arith)));
-        small = λ k. omega (arith, joins k p q, added k, rw is at (room.small k));
+        place = λ k le. omega (arith, count_sawn o x k p q, rw is at (room.place k (omega arith)));
+        small = λ k. omega (arith, count_sawn o x k p q, added k, rw is at (room.small k));
       }
 
   pub added_both : (cs ds es : List ℕ) → Added p cs ds → Added q ds es → Added a cs es
-  added_both cs ds es first second k = rw is (omega (arith, joins k p q, first k, second k))
+  added_both cs ds es first second k = rw is (omega (arith, count_sawn o x k p q, first k, second k))
 
 one_of_it : (j : ℕ) → count_of j (take j) ≡ 1
 unfolding count_of
@@ -76,7 +73,8 @@ module _ (a : Way) (j : ℕ) (is : a ≡ take j) (cs : List ℕ) where
 -- a way that can be sawn yields no more of a piece than the sheet has squares, and none of a piece that isn't there
 module _ (blade : ℕ) (ps : List Piece) (k : ℕ) where
   counts_add : Adds blade (λ w h. count_of k)
-  counts_add = record { uprights = λ w h x a b. upright_joins x k a b; levels = λ w h y a b. level_joins y k a b }
+  unfolding count_of
+  counts_add = record { uprights = λ w h x a b. refl; levels = λ w h y a b. refl }
 
   count_within :
       (each : ℕ) → ((w h j : ℕ) → piece_fits ps j w h ≡ true → count_of k (take j) ≤ each * (w * h)) →

@@ -4,6 +4,7 @@ use Rattle.ways.specs.Judged.{sound}
 use Rattle.ways.specs.Nodes.{way_at}
 use Rattle.ways.specs.Sheet.{Way, can}
 use Rattle.ways.specs.declared.input.Piece.{Piece}
+use Rattle.ways.specs.declared.parts.Part.{Part}
 use Rattle.yields.specs.Counts.{count_of}
 use Rattle.yields.specs.declared.squares.Areas.{Areas}
 
@@ -11,14 +12,18 @@ use Rattle.yields.specs.declared.squares.Areas.{Areas}
 abbrev pub Sound : List ℕ → (levels i : ℕ) → Type 0
 Sound xs l i = sound xs (length xs / 4) l i ≡ true
 
--- a part so wide and so high can be sawn as node i says, read so many levels deep
-abbrev pub Sawable : (blade : ℕ) → List Piece → List ℕ → (levels i wide high : ℕ) → Type 0
-Sawable blade ps xs l i w h = Sound xs l i × (can blade ps w h (way_at xs l i) ≡ true)
+-- a part can be sawn as node i says, read so many levels deep
+abbrev pub Sawable : (blade : ℕ) → List Piece → List ℕ → (levels i : ℕ) → Part → Type 0
+Sawable blade ps xs l i p = Sound xs l i × (can blade ps p.wide p.high (way_at xs l i) ≡ true)
 
 -- the counts of a way can be added to these: there is a place for each of its pieces, and no count gets large
 pub record RoomFor (a : Way) (counts : List ℕ) : Type 0 where
   pub place : (k : ℕ) → length counts ≤ k → count_of k a ≡ 0
   pub small : (k : ℕ) → slice_index counts k + count_of k a ≤ 3600
+
+-- these areas are no more than the largest sheet has
+abbrev pub OneSheet : Areas → Type 0
+OneSheet r = r.pieces + r.blade + r.scrap ≤ 3600
 
 -- the areas r of both parts of a cut together, where the cut takes so many squares
 pub record WithCut (cut : ℕ) (first second r : Areas) : Type 0 where

@@ -14,24 +14,17 @@ mod squares;
 
 pub use squares::Areas;
 use squares::part_areas;
-use ways::{Node, Pieces, Sheet, Verdict, judge};
-
-// How many sorts of pieces there are at most.
-const MOST: usize = 16;
+use ways::{MOST, Node, Pieces, Sheet, judge};
 
 // How many of each piece a way yields, by the piece's number and then noughts, if the nodes are a way that can
 // be sawn.
 pub fn piece_counts(sheet: Sheet, pieces: &Pieces, numbers: &[u16]) -> Option<[u32; MOST]>
     ensures { Answered (judged sheet.blade (pieces_of pieces.now) sheet.wide sheet.high numbers.now) (CountsAre (pieces_of pieces.now) (way_of numbers.now)) result }
 {
-    match judge(sheet, pieces, numbers) {
-        Verdict::Can(_) => {
-            let mut counts = [0; MOST];
-            add_pieces(numbers, 0, &mut counts);
-            Some(counts)
-        }
-        Verdict::Cannot => None,
-    }
+    judge(sheet, pieces, numbers)?;
+    let mut counts = [0; MOST];
+    add_pieces(numbers, 0, &mut counts);
+    Some(counts)
 }
 
 // Adds what the way yields that the nodes say from node i on.
@@ -45,13 +38,9 @@ fn add_pieces(numbers: &[u16], i: usize, counts: &mut [u32])
     match node {
         Node::Scrap => {}
         Node::Take { piece } => counts[piece as usize] += 1,
-        Node::Upright { left, right, .. } => {
-            add_pieces(numbers, left as usize, counts);
-            add_pieces(numbers, right as usize, counts);
-        }
-        Node::Level { lower, upper, .. } => {
-            add_pieces(numbers, lower as usize, counts);
-            add_pieces(numbers, upper as usize, counts);
+        Node::Saw(cut) => {
+            add_pieces(numbers, cut.first as usize, counts);
+            add_pieces(numbers, cut.second as usize, counts);
         }
     }
 }
@@ -60,8 +49,6 @@ fn add_pieces(numbers: &[u16], i: usize, counts: &mut [u32])
 pub fn areas(sheet: Sheet, pieces: &Pieces, numbers: &[u16]) -> Option<Areas>
     ensures { Answered (judged sheet.blade (pieces_of pieces.now) sheet.wide sheet.high numbers.now) (AreasAre sheet.blade (pieces_of pieces.now) sheet.wide sheet.high (way_of numbers.now)) result }
 {
-    match judge(sheet, pieces, numbers) {
-        Verdict::Can(_) => Some(part_areas(numbers, 0, sheet.blade(), sheet.wide(), sheet.high())),
-        Verdict::Cannot => None,
-    }
+    judge(sheet, pieces, numbers)?;
+    Some(part_areas(numbers, 0, sheet.blade(), sheet.whole()))
 }

@@ -1,6 +1,7 @@
 use Rattle.std.proofs.Common.{ℕ, replicate, refl, ◌∙◌, arith, length-set}
 use lib.ListN.{length-replicate}
-use Rattle.worths.proofs.Filling.{narrower_none, lower_none, narrower_more, narrower_kept, lower_more}
+use Rattle.worths.specs.Table.{place_of}
+use Rattle.worths.proofs.Filling.{smaller_done, narrower_none, lower_none, narrower_more, narrower_kept, lower_more}
 use Rattle.worths.proofs.values_of.Goals as goal
 
 pub loop-wide-init : goal.loop-wide-init
@@ -19,21 +20,16 @@ loop-high-init g c =
 pub part_worth-worth-requires : goal.part_worth-worth-requires
 part_worth-worth-requires g c =
     let inv = c.loop-high.invariant in
-    record {
-      wide = (omega arith, omega arith);
-      high = (omega arith, omega arith);
-      narrower = λ x lt. inv.2 x c.loop-high.high lt (omega arith);
-      lower = inv.3;
-    }
+    smaller_done (g.U.Uncut.reckoned c.args.uncut.now) _ _ _ _ c.loop-high.values (omega arith) inv.2 inv.3
 
 pub loop-high-preserved : goal.loop-high-preserved
 loop-high-preserved g c =
     let r = g.U.Uncut.reckoned c.args.uncut.now in let t = c.loop-high.values in let v = c.part_worth-worth.result in let inv = c.loop-high.invariant in
-    rw c.place.ensures (
+    rw c.index.ensures (
       inv.0,
-      length-set t.cells _ v ∙ inv.1,
-      narrower_kept r _ _ _ _ t v (omega arith) (omega arith) (omega arith) (omega arith) inv.2,
-      lower_more r _ c.args.sheet.high _ _ t v (omega arith) (omega arith) (omega arith) (omega arith) (omega arith) inv.3 c.part_worth-worth.ensures,
+      length-set t.cells (place_of c.loop-wide.wide c.loop-high.high) v ∙ inv.1,
+      narrower_kept r _ c.args.sheet.high c.loop-wide.wide c.loop-high.high t v (omega arith) (omega arith) (omega arith) (omega arith) inv.2,
+      lower_more r _ c.args.sheet.high c.loop-wide.wide c.loop-high.high t v (omega arith) (omega arith) (omega arith) (omega arith) (omega arith) inv.3 c.part_worth-worth.ensures,
     )
 
 pub loop-wide-preserved : goal.loop-wide-preserved

@@ -12,9 +12,9 @@ pub loop-x-init : goal.loop-x-init
 loop-x-init c =
     elim c.if-may_leave_nothing.branch [
       | then-may_leave_nothing w ↦
-          tried_whole (part_of c.args.orientation c.args.self.now.cells c.args.wide c.args.high) _ _ _ w.part.result _ (part_empty _ _ _ _) (omega arith) (omega arith)
+          tried_whole (part_of c.args.orientation c.args.self.now.cells c.args.place.part) _ _ _ w.part.result _ (part_empty c.args.orientation c.args.self.now.cells c.args.place.part) (omega arith) (omega arith)
           w.part.ensures (w.best-is ∙ w.max-best.ensures)
-      | else-may_leave_nothing w ↦ rw w.best-is (tried_thin (part_of c.args.orientation c.args.self.now.cells c.args.wide c.args.high) _ _ _ (omega arith))
+      | else-may_leave_nothing w ↦ rw w.best-is (tried_thin (part_of c.args.orientation c.args.self.now.cells c.args.place.part) _ _ _ (omega arith))
     ]
 
 pub loop-x-preserved : goal.loop-x-preserved
@@ -24,4 +24,4 @@ loop-x-preserved c =
     tried_more _ _ _ _ _ _ _ _ c.loop-x.invariant (omega (arith, e)) c.max-best-in-loop-x.ensures (omega arith) (omega arith) (omega arith)
 
 pub returns : goal.returns
-returns c = rw (← c.side-side.ensures, ← c.blade-blade.ensures) (tried_all _ _ _ _ _ _ (part_empty _ _ _ _) c.loop-x.invariant (omega arith))
+returns c = rw (← c.side-side.ensures, ← c.blade-blade.ensures) (tried_all _ _ _ _ _ _ (part_empty c.args.orientation c.args.self.now.cells c.args.place.part) c.loop-x.invariant (omega arith))

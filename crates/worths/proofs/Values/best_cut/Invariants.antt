@@ -3,4 +3,4 @@ use Rattle.worths.proofs.Halves.{Tried}
 use Rattle.worths.proofs.Values.best_cut.Given as goal
 
 abbrev pub invariant-loop-x : goal.invariant-loop-x
-invariant-loop-x l = Tried (part_of l.orientation l.self.cells l.wide l.high) l.blade l.side l.before l.x l.best
+invariant-loop-x l = Tried (part_of l.orientation l.self.cells l.place.part) l.blade l.side l.before l.x l.best

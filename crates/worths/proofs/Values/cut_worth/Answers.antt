@@ -11,25 +11,25 @@ returns-then-side-blade c = rw (← c.side-side.ensures, ← c.blade-blade.ensur
 pub returns-then-first-second : goal.returns-then-first-second
 returns-then-first-second c =
     rw (← c.side-side.ensures, ← c.blade-blade.ensures)
-    (reached (part_of c.args.orientation c.args.self.now.cells c.args.wide c.args.high) _ _ _ _ _ _ (omega arith) (omega arith) c.part-first.ensures c.part-second.ensures
+    (reached (part_of c.args.orientation c.args.self.now.cells c.args.place.part) _ _ _ _ _ _ (omega arith) (omega arith) c.part-first.ensures c.part-second.ensures
     c.if-first-second.true)
 
 pub loop-x-preserved : goal.loop-x-preserved
 loop-x-preserved c =
-    let f = part_of c.args.orientation c.args.self.now.cells c.args.wide c.args.high in
+    let f = part_of c.args.orientation c.args.self.now.cells c.args.place.part in
     let before : c.loop-x.x - 1 + 1 ≡ c.loop-x.x = omega arith in
     none_more f _ _ _ (c.loop-x.x - 1) _ _ c.part-first.ensures c.part-second.ensures c.if-first-second.false (rw before c.loop-x.invariant)
 
 pub returns-then-part-worth : goal.returns-then-part-worth
 returns-then-part-worth c =
     rw (← c.side-side.ensures, ← c.blade-blade.ensures)
-    (reached_whole (part_of c.args.orientation c.args.self.now.cells c.args.wide c.args.high) _ _ _ (part_empty _ _ _ _) (omega arith) _ (omega arith) c.part.ensures
+    (reached_whole (part_of c.args.orientation c.args.self.now.cells c.args.place.part) _ _ _ (part_empty c.args.orientation c.args.self.now.cells c.args.place.part) (omega arith) _ (omega arith) c.part.ensures
     c.if-part-worth.true)
 
 pub returns : goal.returns
 returns c =
     rw (← c.side-side.ensures, ← c.blade-blade.ensures)
-    (none_at_all (part_of c.args.orientation c.args.self.now.cells c.args.wide c.args.high) _ _ _ (part_empty _ _ _ _) (omega arith)
+    (none_at_all (part_of c.args.orientation c.args.self.now.cells c.args.place.part) _ _ _ (part_empty c.args.orientation c.args.self.now.cells c.args.place.part) (omega arith)
     (λ y some half sum. c.loop-x.invariant y (omega arith) half sum)
     (λ thick whole.
     elim c.else-ends_in_the_blade.branch [

@@ -3,4 +3,4 @@ use Rattle.worths.proofs.Reached.{NoneFrom}
 use Rattle.worths.proofs.Values.cut_worth.Given as goal
 
 abbrev pub invariant-loop-x : goal.invariant-loop-x
-invariant-loop-x l = NoneFrom (part_of l.orientation l.self.cells l.wide l.high) l.blade l.side l.worth l.x
+invariant-loop-x l = NoneFrom (part_of l.orientation l.self.cells l.place.part) l.blade l.side l.worth l.x

@@ -1,15 +1,22 @@
-use Rattle.std.proofs.Common.{sym, inl, inr, ⊎_elim, arith}
-use Rattle.worths.proofs.Cells.{cell_empty}
+use Rattle.std.proofs.Common.{sym, inl, inr, arith}
+use Rattle.worths.proofs.Cells.{cell_of_none}
 use Rattle.worths.proofs.Says.{value_there, value_beyond}
 use Rattle.worths.proofs.Values.worth.Goals as goal
+use Rattle.worths.proofs.Values.worth.Goals.{then-part-wide-via-then-part-wide, then-part-wide-via-else-part-wide+then-part-high}
 
-pub returns-then-high-highest : goal.returns-then-high-highest
-returns-then-high-highest c = sym (value_beyond c.args.self.now c.args.wide c.args.high (⊎_elim (λ p. inl (omega arith)) (λ q. inr (omega arith)) c.if-high-highest.either))
+pub returns-then-part-wide : goal.returns-then-part-wide
+returns-then-part-wide c =
+    sym
+    (value_beyond c.args.self.now c.args.part.wide c.args.part.high
+    (elim c.then-part-wide.branch [
+      | then-part-wide-via-then-part-wide w ↦ inl (omega arith)
+      | then-part-wide-via-else-part-wide+then-part-high w ↦ inr (omega arith)
+    ]))
 
-pub returns-then-high-eq0 : goal.returns-then-high-eq0
-returns-then-high-eq0 c =
-    let t = c.args.self.now in let w = c.args.wide in let h = c.args.high in
-    rw (value_there t w h (omega arith) (omega arith), cell_empty t.cells w h (⊎_elim inl (λ q. inr q.1) c.if-high-eq0.either))
+pub returns-in-Some : goal.returns-in-Some
+returns-in-Some c = rw (c.cell.ensures, c.in-Some.ensures) (sym (value_there c.args.self.now c.args.part.wide c.args.part.high (omega arith) (omega arith)))
 
-pub returns-else-high-eq0 : goal.returns-else-high-eq0
-returns-else-high-eq0 c = rw c.cell.ensures (sym (value_there c.args.self.now c.args.wide c.args.high (omega arith) (omega arith)))
+pub returns-in-None : goal.returns-in-None
+returns-in-None c =
+    let t = c.args.self.now in let p = c.args.part in
+    rw (value_there t p.wide p.high (omega arith) (omega arith), cell_of_none t.cells p.wide p.high (omega arith) (omega arith) c.in-None.ensures)

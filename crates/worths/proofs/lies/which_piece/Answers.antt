@@ -1,10 +1,12 @@
-use Rattle.std.proofs.Common.{sym}
-use Rattle.worths.proofs.Which.{fits_here, one_fits}
+use Rattle.std.proofs.Common.{◌≡◌, ◌∙◌, rules, tests}
+use Rattle.std.proofs.lemmas.Iterator.{YieldsList-from_slice}
+use Rattle.std.proofs.lemmas.Iterator.Search.{position_from_yields_List}
+use Rattle.worths.proofs.Fitting.{wanted, fitting}
 use Rattle.worths.proofs.lies.which_piece.Goals as goal
 
-pub returns-then-p-best : goal.returns-then-p-best
-returns-then-p-best c =
-    fits_here _ _ _ _ _ c.loop-k-test.true c.best_piece-best.ensures c.if-best-eq0.false (sym c.if-fits.ensures) c.if-p-best.true
-
-pub unreachable-requires : goal.unreachable-requires
-unreachable-requires c = one_fits _ _ _ _ _ c.best_piece-best.ensures c.if-best-eq0.false c.loop-k-test.false c.loop-k.invariant
+pub returns : goal.returns
+returns c =
+    let ps = c.args.pieces.now in let w = c.args.part.wide in let h = c.args.part.high in let v = c.best_piece-best.result in
+    let first = position_from_yields_List (wanted w h v) _ _ c.position.result c.position.ensures.ran (YieldsList-from_slice ps c.iter.ensures.rest) (λ x b q k. search (rules, tests)) in
+    let same : c.map.result ≡ c.position.result = search (rules, tests) in
+    fitting ps w h v c.best_piece-best.ensures c.if-best-eq0.false _ (same ∙ first)

@@ -1,17 +1,18 @@
-use Rattle.std.proofs.Common.{◌∙◌, arith}
-use Rattle.worths.proofs.Fitting.{so_far_take, so_far_keep, so_far_all}
+use Rattle.std.proofs.Common.{sym, ap, ◌∙◌, rules, tests}
+use Rattle.std.proofs.lemmas.Iterator.{YieldsList-from_slice, YieldsList-from_map}
+use Rattle.std.proofs.lemmas.Iterator.Adapters.{option_map_id}
+use Rattle.std.proofs.lemmas.Iterator.Consumers.{YieldsList-at, YieldsList-from_filter, max_from_yields_List}
+use Rattle.std.specs.Option.{unwrap_or}
+use Rattle.worths.proofs.Fitting.{fits, best_of_fitting}
 use Rattle.worths.proofs.pieces.best_piece.Goals as goal
-use Rattle.worths.proofs.pieces.best_piece.Goals.{then-p-wide+then-p-high, else-p-wide, else-p-wide-via-then-p-wide+else-p-high, else-p-wide-via-else-p-wide}
-
-pub loop-p-preserved : goal.loop-p-preserved
-loop-p-preserved c =
-    elim c.if-p-wide.branch [
-      | then-p-wide+then-p-high w ↦ so_far_take _ _ _ _ _ _ c.loop-p.invariant c.loop-p-test.true w.if-p-wide.true w.if-p-high.true (w.best-is ∙ w.max-best.ensures)
-      | else-p-wide w ↦
-          rw w.best-is
-          (so_far_keep _ _ _ _ _ c.loop-p.invariant c.loop-p-test.true
-          (λ a b. elim w.else-p-wide.branch [ else-p-wide-via-then-p-wide+else-p-high v ↦ omega arith | else-p-wide-via-else-p-wide v ↦ omega arith ]))
-    ]
 
 pub returns : goal.returns
-returns c = so_far_all _ _ _ _ _ c.loop-p.invariant c.loop-p-test.false
+returns c =
+    let ps = c.args.pieces.now in let w = c.args.part.wide in let h = c.args.part.high in
+    let most = max_from_yields_List _ c.max.result c.max.ensures.ran
+    (YieldsList-from_map _ (λ p. p.worth)
+    (YieldsList-at c.map.ensures.source
+    (YieldsList-from_filter _ (fits w h) (YieldsList-at c.filter.ensures.source (YieldsList-from_slice ps c.iter.ensures.rest)) c.filter.ensures.closure
+    (λ x b q k. search (rules, tests))))
+    c.map.ensures.closure (λ x r q k. search rules)) in
+    c.unwrap_or.ensures ∙ ap (λ r. unwrap_or r 0) (sym (option_map_id _) ∙ most) ∙ best_of_fitting ps w h

@@ -1,6 +1,6 @@
 use Rattle.std.proofs.Common.{length, ap, arith}
 use Rattle.std.proofs.lemmas.List.{length-take}
-use Rattle.worths.proofs.Which.{lies_fitting}
+use Rattle.worths.proofs.Fitting.{lies_fitting}
 use Rattle.worths.proofs.lies.PiecesLying.lies.Goals as goal
 
 pub which_piece-requires : goal.which_piece-requires

@@ -1,57 +1,20 @@
-// What the entry refuses, and what it leaves.
+// What the entry that leaves a best way refuses, and what it leaves.
+use crate::cases::{BOTH, NOISE, ONE, REFUSED, ROOM, THREE};
 use best::saw;
 use saw::Done;
 use std::test::Fail;
-use ways::{Pieces, Sheet, Verdict, judge};
-
-const ONE: &[u32] = &[4, 3, 12];
-
-const BOTH: &[u32] = &[4, 3, 12, 3, 4, 12];
-
-const THREE: &[u32] = &[4, 3, 12, 3, 2, 5, 5, 6, 31];
-
-// What the room holds before.
-const NOISE: u16 = 7;
-
-// Enough for the sheets below that are refused: they have at most 12 squares.
-const ROOM: usize = 100;
-
-// A sheet and its blade, pieces, how many numbers of room are lent, and the number of the refusal.
-type Refused<'a> = ((u64, u64, u64), &'a [u32], usize, u64);
+use ways::{Pieces, Sheet, judge};
 
 #[test]
 fn first_refusal_first(rt: HostRuntime) {
-    let seventeen = [1u32; 51];
-    let rows: [Refused; 17] = [
-        ((0, 3, 0), ONE, 100, 1),
-        ((61, 3, 0), ONE, 100, 1),
-        ((4, 0, 0), ONE, 100, 1),
-        ((4, 61, 0), ONE, 100, 1),
-        ((4, 3, 61), ONE, 100, 1),
-        ((u64::MAX, u64::MAX, u64::MAX), ONE, 100, 1),
-        ((4, 3, 0), &[4], 100, 2),
-        ((4, 3, 0), &[4, 3, 12, 4, 3], 100, 2),
-        ((4, 3, 0), &[0, 3, 12], 100, 2),
-        ((4, 3, 0), &[4, 0, 12], 100, 2),
-        ((4, 3, 0), &[4, 3, 100_001], 100, 2),
-        ((4, 3, 0), &seventeen, 100, 2),
-        ((4, 3, 0), ONE, 95, 3),
-        ((1, 1, 0), ONE, 0, 3),
-        // Of several, the first of the list.
-        ((0, 3, 0), &[0, 3, 12], 0, 1),
-        ((4, 3, 61), ONE, 0, 1),
-        ((4, 3, 0), &[4], 0, 2),
-    ];
-    for ((wide, high, blade), pieces, len, number) in rows {
+    for ((wide, high, blade), pieces, len, number) in REFUSED {
         let mut room = [NOISE; ROOM];
         assert!(rt; len <= ROOM);
         assert_eq!(rt;
             saw(wide, high, blade, pieces, &mut room[0..len]),
             Done::Refused(number)
         );
-        for x in &room {
-            assert_eq!(rt; *x, NOISE);
-        }
+        assert_eq!(rt; room, [NOISE; ROOM]);
     }
 }
 
@@ -90,9 +53,8 @@ fn best_ways(rt: HostRuntime) -> Result<(), Fail> {
     ];
     for ((wide, high, blade), numbers, worth, count) in rows {
         let sheet = Sheet::new(wide, high, blade)?;
-        let pieces = Pieces::from_numbers(numbers)?;
-        let len = 8 * (sheet.wide() * sheet.high());
-        let mut room = vec![in rt.alloc(); NOISE; len]?;
+        let pieces = Pieces::try_from(numbers)?;
+        let mut room = vec![in rt.alloc(); NOISE; sheet.room()]?;
         let Done::Sawn(nodes, answered) = saw(wide, high, blade, numbers, room.as_mut_slice())
         else {
             return Err(Fail::new("refused"));
@@ -101,10 +63,9 @@ fn best_ways(rt: HostRuntime) -> Result<(), Fail> {
         if let Some(count) = count {
             assert_eq!(rt; nodes, count);
         }
-        for (i, x) in room.iter().enumerate() {
-            assert!(rt; i as u64 / 4 < nodes || *x == NOISE);
-        }
-        assert_eq!(rt; judge(sheet, &pieces, room.as_slice()), Verdict::Can(worth));
+        let written = nodes.saturating_mul(4) as usize;
+        assert!(rt; room.iter().skip(written).all(|x| *x == NOISE));
+        assert_eq!(rt; judge(sheet, &pieces, room.as_slice()), Some(worth));
     }
     Ok(())
 }
@@ -115,7 +76,5 @@ fn nodes_in_order(rt: HostRuntime) {
     let mut room = [NOISE; 120];
     assert_eq!(rt; saw(5, 3, 1, ONE, &mut room), Done::Sawn(3, 12));
     let nodes = [2u16, 4, 1, 2, 1, 0, 0, 0, 0, 0, 0, 0];
-    for (i, x) in nodes.iter().enumerate() {
-        assert_eq!(rt; room[i], *x);
-    }
+    assert_eq!(rt; &room[0..12], nodes.as_slice());
 }
