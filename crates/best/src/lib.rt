@@ -24,7 +24,8 @@ pub struct Plan {
 }
 
 // Saws a sheet with a blade for pieces of three numbers each: wide, high, worth. A best way is left from the front of the room
-// on, four numbers a node.
+// on, four numbers a node. The other entry, `saw::saw`, leaves scrap, and is what the program prints until it takes this one up.
+#[tactic(auto, using(crate::proofs::Sawn::done))]
 pub fn saw(wide: u64, high: u64, blade: u64, pieces: &[u32], room: &mut [u16]) -> Done
     ensures done { DoneSays (refusal wide high blade pieces.now (length room.old)) (BestWay blade (pieces_in pieces.now) wide high) room.old result room.new }
     ensures judged { JudgeAgrees wide high blade (pieces_in pieces.now) result room.new }

@@ -67,6 +67,7 @@ fn answer(heap: Global, text: &str) -> Result<String, Fault> {
 }
 
 // How many nodes `saw` leaves in the room.
+#[tactic(auto, using(ways::proofs::Taken::taken))]
 fn left(sheet: Sheet, numbers: &[u32], room: &mut [u16]) -> usize
     requires sheet { sheet_fault sheet.wide sheet.high sheet.blade ≡ None }
     requires pieces { pieces_fault numbers.now ≡ None }

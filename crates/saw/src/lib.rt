@@ -36,6 +36,7 @@ pub fn saw(wide: u64, high: u64, blade: u64, pieces: &[u32], room: &mut [u16]) -
 }
 
 // The sheet and the pieces, or the first refusal that applies.
+#[tactic(auto, using(ways::proofs::Taken::taken), unfolding(ways::specs::Refusals::room_fault))]
 fn accept(
     wide: u64,
     high: u64,

@@ -12,7 +12,7 @@ use crate::refusals::Refusal;
 const LARGEST: u64 = 60;
 
 // The most sorts of pieces.
-pub const MOST: usize = 16;
+pub const MOST_SORTS: usize = 16;
 
 // The most that a piece may be worth.
 const DEAREST: u32 = 100_000;
@@ -30,13 +30,14 @@ pub struct Sheet {
 // pieces are passed by value.
 #[derive(Clone, Copy)]
 pub struct Pieces {
-    list: [Piece; MOST],
+    list: [Piece; MOST_SORTS],
     count: usize,
     ghost few: { count ≤ 16 },
     ghost ok: { pieces_ok (take count list) ≡ true },
 }
 
 impl Sheet {
+    #[tactic(auto, unfolding(crate::specs::Refusals::sheet_fault))]
     pub fn new(wide: u64, high: u64, blade: u64) -> Result<Sheet, Refusal>
         ensures { MatchResult result (λ s. (sheet_fault wide high blade ≡ None) × (s.wide ≡ wide) × (s.high ≡ high) × (s.blade ≡ blade)) (λ e. sheet_fault wide high blade ≡ Some e) }
     {
@@ -100,21 +101,23 @@ impl Pieces {
         &self.list[0..self.count]
     }
 
+    #[tactic(auto, unfolding(crate::specs::Input::pieces_ok))]
     fn none() -> Pieces
         ensures { result.count ≡ 0 }
     {
         Pieces {
-            list: [Piece::default(); MOST],
+            list: [Piece::default(); MOST_SORTS],
             count: 0,
         }
     }
 
     // One piece more, if there is place for it and it is as it may be; else nothing changes.
+    #[tactic(auto, unfolding(crate::specs::Input::piece_ok), using(crate::proofs::Allowed::pieces_ok_push, crate::proofs::Allowed::piece_ok_from))]
     fn push(&mut self, p: Piece) -> Result<(), Refusal>
         ensures answer { MatchResult result (λ _. (nat_lt self.old.count 16 && piece_ok p) ≡ true) (λ e. ((nat_lt self.old.count 16 && piece_ok p) ≡ false) × (e ≡ BadPiece self.old.count)) }
         ensures held { MatchResult result (λ _. (self.new.count ≡ self.old.count + 1) × (take self.new.count self.new.list ≡ take self.old.count self.old.list ++ (p ∷ []))) (λ _. self.new ≡ self.old) }
     {
-        if self.count < MOST && p.wide >= 1 && p.high >= 1 && p.worth <= DEAREST {
+        if self.count < MOST_SORTS && p.wide >= 1 && p.high >= 1 && p.worth <= DEAREST {
             self.list[self.count] = p;
             self.count += 1;
             Ok(())

@@ -13,7 +13,7 @@ mod nodes;
 mod parts;
 mod refusals;
 
-pub use checked::{MOST, Pieces, Sheet};
+pub use checked::{MOST_SORTS, Pieces, Sheet};
 pub use input::Piece;
 pub use nodes::{Cut, Node, UnknownKind};
 pub use parts::{Orientation, Part};
@@ -22,6 +22,7 @@ pub use refusals::Refusal;
 // Judges nodes of four numbers each, of which the first is the way: what it is worth, if it can be sawn. A node that names itself,
 // an earlier or a missing one is no way, nor is one of a kind above 3; numbers that a node doesn't need and nodes that the way
 // doesn't reach are of no matter.
+#[tactic(auto, unfolding(crate::specs::Judged::judged))]
 pub fn judge(sheet: Sheet, pieces: &Pieces, numbers: &[u16]) -> Option<u32>
     ensures { result ≡ judged sheet.blade (pieces_of pieces.now) sheet.wide sheet.high numbers.now }
 {
@@ -29,7 +30,7 @@ pub fn judge(sheet: Sheet, pieces: &Pieces, numbers: &[u16]) -> Option<u32>
 }
 
 // What a part is worth, sawn as node i says. Every cut makes its parts smaller, so the sheet bounds how many nodes are looked at,
-// however many name the same one.
+// however many name the same one. How large the part is, is asked here and not in `Part`, whose users may ask of any size.
 fn part_worth(numbers: &[u16], i: usize, pieces: &Pieces, blade: usize, part: Part) -> Option<u32>
     requires small { (blade ≤ 60) × ((part.wide ≤ 60) × (part.high ≤ 60)) }
     ensures { (l : ℕ) → length numbers.now / 4 ≤ l + i → result ≡ worth_from blade (pieces_of pieces.now) numbers.now (length numbers.now / 4) l i part.wide part.high }
@@ -53,6 +54,7 @@ fn part_worth(numbers: &[u16], i: usize, pieces: &Pieces, blade: usize, part: Pa
 }
 
 // What piece k is worth, if it is just so wide and so high.
+#[tactic(auto, using(crate::proofs::Fits::fits_at, crate::proofs::Fits::fits_past, crate::proofs::Fits::worth_here))]
 fn fitting(pieces: &[Piece], k: u16, part: Part) -> Option<u32>
     ensures { result ≡ (if piece_fits pieces.now k part.wide part.high then Some (worth_at pieces.now k) else None) }
 {
@@ -64,6 +66,7 @@ fn fitting(pieces: &[Piece], k: u16, part: Part) -> Option<u32>
 const LEAST: u16 = 1;
 
 // What is left of a side beyond the blade, if it may be sawn through at x.
+#[tactic(auto, unfolding(crate::specs::Sheet::cut_ok))]
 fn beyond(blade: usize, side: usize, x: u16) -> Option<usize>
     requires { blade ≤ 60 }
     ensures { result ≡ (if cut_ok blade side x then Some (side - (x + blade)) else None) }

@@ -43,6 +43,7 @@ impl TryFrom<[u16; 4]> for Node<u16> {
 
     ghost try_from_gives = { Reads };
 
+    #[tactic(auto, unfolding(crate::specs::Nodes::node_from))]
     fn try_from([kind, x, first, second]: [u16; 4]) -> Result<Node<u16>, UnknownKind> {
         let orientation = match kind {
             0 => return Ok(Node::Scrap),

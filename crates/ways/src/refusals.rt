@@ -23,6 +23,7 @@ pub enum Refusal {
     Line(usize),
 }
 
+// Two numbers of one refusal, so two methods and no `From`.
 impl Refusal {
     pub fn number(&self) -> u64
         ensures { result ≡ number_of self.now }

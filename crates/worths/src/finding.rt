@@ -10,6 +10,7 @@ use ways::{Cut, Orientation, Part};
 impl Values {
     // A cut of a part whose two parts are together worth what the part is, if there is one of that orientation. None is answered of
     // an empty part, and of one that is wider or higher than the sheet.
+    #[tactic(auto, using(crate::proofs::Found::cut_within))]
     pub fn find_cut(&self, orientation: Orientation, part: Part) -> Option<Cut<Part>>
         ensures { CutFound self.now orientation part result }
     {
@@ -26,7 +27,8 @@ impl Values {
     }
 
     // Where the cut nearest to the middle is, of that orientation, whose two parts are worth so much together. It is found in the
-    // nearer half, since its mirror is worth the same; the cut that leaves nothing on the other side comes last.
+    // nearer half, since its mirror is worth the same; the cut that leaves nothing on the other side comes last. `best_cut` goes over
+    // the same cuts, but over all of them, and keeps the most: one loop for both would be both loops with a switch.
     fn cut_worth(&self, orientation: Orientation, place: Place, worth: u32) -> Option<usize>
         ensures { Reaching (part_of orientation self.now.cells place.part) self.now.sheet.blade (side_of orientation place.part.wide place.part.high) worth result }
     {

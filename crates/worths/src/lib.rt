@@ -24,7 +24,7 @@ use ways::{Orientation, Part, Pieces, Sheet};
 // How many numbers the table has: 60 widths of 60 heights.
 const CELLS: usize = 3600;
 
-// What a sheet, and each that is no wider and no higher, is worth.
+// What a sheet, and each that is no wider and no higher, is worth: 3,600 numbers by value, with no heap.
 #[derive(Drop)]
 pub struct Values {
     sheet: Sheet,
@@ -32,6 +32,7 @@ pub struct Values {
 }
 
 // What a sheet is worth for these pieces.
+#[tactic(auto, using(crate::proofs::Says::whole_worth))]
 pub fn sheet_worth(sheet: Sheet, pieces: &Pieces) -> u32
     ensures { WorthIs sheet.blade (pieces_of pieces.now) sheet.wide sheet.high result }
 {
@@ -39,6 +40,7 @@ pub fn sheet_worth(sheet: Sheet, pieces: &Pieces) -> u32
 }
 
 // What each part of a sheet is worth for these pieces: the worth of a way that can be sawn, and no way whatever is worth more.
+#[tactic(auto, using(crate::proofs::Says::worths_are))]
 pub fn best_worths(sheet: Sheet, pieces: &Pieces) -> Values
     ensures sheet { result.sheet ≡ sheet }
     ensures worths { WorthsAre sheet.blade (pieces_of pieces.now) sheet.wide sheet.high result }
@@ -69,6 +71,7 @@ pub fn values_of<U: Uncut>(sheet: Sheet, uncut: &U) -> Values
 
 impl Values {
     // What a part is worth, if it is no wider and no higher than the sheet. An empty one is worth nothing.
+    #[tactic(auto, using(crate::proofs::Says::value_there, crate::proofs::Says::value_beyond, crate::proofs::Cells::cell_of_none))]
     pub fn worth(&self, part: Part) -> Option<u32>
         ensures { result ≡ value_at self.now part.wide part.high }
     {
@@ -82,6 +85,7 @@ impl Values {
     }
 
     // What the whole sheet is worth.
+    #[tactic(auto, using(crate::proofs::Says::value_there))]
     pub fn whole(&self) -> u32
         ensures { value_at self.now self.now.sheet.wide self.now.sheet.high ≡ Some result }
     {
@@ -89,6 +93,7 @@ impl Values {
         self.cell(Place { part })
     }
 
+    #[tactic(auto, using(crate::proofs::Cells::cell_at))]
     fn cell(&self, place: Place) -> u32
         ensures { result ≡ cell self.now.cells place.part.wide place.part.high }
     {

@@ -15,7 +15,8 @@ pub struct Areas {
     pub scrap: u32,
 }
 
-// The areas of a part that can be sawn as node i says. A piece is just as wide and as high as its part.
+// The areas of a part that can be sawn as node i says. A piece is just as wide and as high as its part. How large the part is, is
+// asked here and not in `Part`, whose users may ask of any size.
 pub(crate) fn part_areas(numbers: &[u16], i: usize, blade: usize, part: Part) -> Areas
     requires small { (blade ≤ 60) × ((part.wide ≤ 60) × (part.high ≤ 60)) }
     requires way { (ps : List Piece) × (l : ℕ) × Sawable blade ps numbers.now l i part }
