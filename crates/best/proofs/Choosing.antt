@@ -106,14 +106,14 @@ module _ (reckoned : ℕ → ℕ → ℕ → Way → ℕ) (leaf : ℕ → ℕ �
       pub good_sawn : (o : Orientation) (c : Cut Part) → FoundCut t o p c → (a b : Way) → Good c.first a → Good c.second b → Good p (sawn c.orientation c.at a b)
       good_sawn o c found a b first second =
           let side = side_of o p.wide p.high in
-          let cut = cut_ok_parts blade side c.at found.allowed in
+          let cut = cut_ok_parts blade side c.at found.cuts.allowed in
           let near = with_side o p c.at in
           let far = with_side o p (side - (c.at + blade)) in
           let near_in = within_sheet t p narrow low o near c.at refl cut.proper in
           let far_in = within_sheet t p narrow low o far (side - (c.at + blade)) refl (omega (arith, cut.some, cut.fits)) in
-          let l : Good near a = subst (λ (q : Part). Good q a) found.first first in
-          let r : Good far b = subst (λ (q : Part). Good q b) found.second second in
-          let both : at_best near + at_best far ≡ at_best p = rw (found.first, found.second) at found.sum in
+          let l : Good near a = subst (λ (q : Part). Good q a) found.cuts.first first in
+          let r : Good far b = subst (λ (q : Part). Good q b) found.cuts.second second in
+          let both : at_best near + at_best far ≡ at_best p = rw (found.cuts.first, found.cuts.second) at found.sum in
           let sum : worth p (sawn o c.at a b) ≡ at_best p =
           omega (
             arith,
@@ -127,7 +127,7 @@ module _ (reckoned : ℕ → ℕ → ℕ → Way → ℕ) (leaf : ℕ → ℕ �
             top = top_is (sawn o c.at a b) (sawn_from blade ps o p c.at a b cut l.top.0 r.top.0) sum;
             thrifty = thrifty_sawn (reckoned t.sheet.blade) leaf blade o p c.at a b (above _ sum) l.thrifty r.thrifty;
           } in
-          subst (λ (q : Orientation). Good p (sawn q c.at a b)) (sym found.oriented) good
+          subst (λ (q : Orientation). Good p (sawn q c.at a b)) (sym found.cuts.oriented) good
 
       -- where a cut comes to the table's number, what the table says of its parts does
       sawn_sum :

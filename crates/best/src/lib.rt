@@ -16,15 +16,15 @@ use table::ByTable;
 use ways::{Pieces, Refusal, Sheet};
 use worths::{Lying, values_of};
 
-// How many nodes a way has, and what it is worth.
+/// How many nodes a way has, and what it is worth.
 #[derive(Clone, Copy)]
 pub struct Plan {
     pub nodes: usize,
     pub worth: u32,
 }
 
-// Saws a sheet with a blade for pieces of three numbers each: wide, high, worth. A best way is left from the front of the room
-// on, four numbers a node. The other entry, `saw::saw`, leaves scrap, and is what the program prints until it takes this one up.
+/// Saws a sheet with a blade for pieces of three numbers each: wide, high, worth. A best way is left from the front of the room
+/// on, four numbers a node. The other entry, `saw::saw`, leaves scrap, and is what the program prints until it takes this one up.
 #[tactic(auto, using(crate::proofs::Sawn::done))]
 pub fn saw(wide: u64, high: u64, blade: u64, pieces: &[u32], room: &mut [u16]) -> Done
     ensures done { DoneSays (refusal wide high blade pieces.now (length room.old)) (BestWay blade (pieces_in pieces.now) wide high) room.old result room.new }
@@ -51,8 +51,8 @@ fn saw_checked(
     saw_sheet(sheet, &pieces, room)
 }
 
-// Saws a sheet for whatever can lie uncut, and leaves a best way, as that reckons ways, from the front of the room on. A room of
-// fewer than eight numbers for each square is refused, and left as it was.
+/// Saws a sheet for whatever can lie uncut, and leaves a best way, as that reckons ways, from the front of the room on. A room of
+/// fewer than eight numbers for each square is refused, and left as it was.
 pub fn saw_sheet<U: Lying>(sheet: Sheet, uncut: &U, room: &mut [u16]) -> Result<Plan, Refusal>
     ensures { SawnOrRefused (room_fault sheet.wide sheet.high (length room.old)) (BestWorth (U.reckoned uncut.now sheet.blade) (U.leaf uncut.now) sheet.blade (U.pieces uncut.now) sheet.wide sheet.high) room.old result room.new }
 {

@@ -6,7 +6,7 @@ use nodes::Chooser;
 use ways::{Node, Orientation, Part};
 use worths::{Lying, Uncut, Values};
 
-// What each part is as it lies, and what it is worth at best.
+/// What each part is as it lies, and what it is worth at best.
 #[derive(Drop)]
 pub struct ByTable<'a, U> {
     pub uncut: &'a U,

@@ -1,5 +1,5 @@
 // What the entry that leaves a best way refuses, and what it leaves.
-use crate::cases::{BOTH, NOISE, ONE, REFUSED, ROOM, THREE};
+use crate::cases::{BOTH, NOISE, ONE, THREE, refuses};
 use best::saw;
 use saw::Done;
 use std::test::Fail;
@@ -7,15 +7,7 @@ use ways::{Pieces, Sheet, judge};
 
 #[test]
 fn first_refusal_first(rt: HostRuntime) {
-    for ((wide, high, blade), pieces, len, number) in REFUSED {
-        let mut room = [NOISE; ROOM];
-        assert!(rt; len <= ROOM);
-        assert_eq!(rt;
-            saw(wide, high, blade, pieces, &mut room[0..len]),
-            Done::Refused(number)
-        );
-        assert_eq!(rt; room, [NOISE; ROOM]);
-    }
+    refuses(&rt, saw);
 }
 
 // A sheet and its blade, pieces, what the sheet is worth, and how many nodes a best way has in which nothing is done in vain,

@@ -1,5 +1,7 @@
 // What more than one test tries: pieces, ways, and what an entry refuses.
+use saw::Done;
 use std::alloc::Global;
+use std::process::Abort;
 use std::test::Fail;
 use ways::{Pieces, Sheet};
 
@@ -122,9 +124,9 @@ pub(crate) const NOISE: u16 = 7;
 pub(crate) const ROOM: usize = 100;
 
 // A sheet and its blade, pieces, how many numbers of room are lent, and the number of the refusal.
-pub(crate) type Refused = ((u64, u64, u64), &'static [u32], usize, u64);
+type Refused = ((u64, u64, u64), &'static [u32], usize, u64);
 
-pub(crate) const REFUSED: [Refused; 17] = [
+const REFUSED: [Refused; 17] = [
     ((0, 3, 0), ONE, 100, 1),
     ((61, 3, 0), ONE, 100, 1),
     ((4, 0, 0), ONE, 100, 1),
@@ -144,3 +146,18 @@ pub(crate) const REFUSED: [Refused; 17] = [
     ((4, 3, 61), ONE, 0, 1),
     ((4, 3, 0), &[4], 0, 2),
 ];
+
+// The entry refuses so, and leaves the room as it was.
+pub(crate) fn refuses<F: Fn(u64, u64, u64, &[u32], &mut [u16]) -> Done>(rt: &impl Abort, saw: F)
+    requires { F.IsAlwaysCallable saw }
+{
+    for ((wide, high, blade), pieces, len, number) in REFUSED {
+        let mut room = [NOISE; ROOM];
+        assert!(rt; len <= ROOM);
+        assert_eq!(rt;
+            saw(wide, high, blade, pieces, &mut room[0..len]),
+            Done::Refused(number)
+        );
+        assert_eq!(rt; room, [NOISE; ROOM]);
+    }
+}

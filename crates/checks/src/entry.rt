@@ -1,5 +1,5 @@
 // What the entry refuses, and what it leaves.
-use crate::cases::{NOISE, ONE, REFUSED, ROOM};
+use crate::cases::{NOISE, ONE, ROOM, refuses};
 use saw::{Done, saw};
 
 // A sheet and its blade, pieces, and how many numbers of room are lent. Nothing is to be refused.
@@ -7,15 +7,7 @@ type Taken = ((u64, u64, u64), &'static [u32], usize);
 
 #[test]
 fn first_refusal_first(rt: HostRuntime) {
-    for ((wide, high, blade), pieces, len, number) in REFUSED {
-        let mut room = [NOISE; ROOM];
-        assert!(rt; len <= ROOM);
-        assert_eq!(rt;
-            saw(wide, high, blade, pieces, &mut room[0..len]),
-            Done::Refused(number)
-        );
-        assert_eq!(rt; room, [NOISE; ROOM]);
-    }
+    refuses(&rt, saw);
     let taken: [Taken; 5] = [
         ((4, 3, 0), ONE, 96),
         ((4, 3, 60), ONE, 100),

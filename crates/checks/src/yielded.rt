@@ -4,10 +4,11 @@ use crate::cases::{
     TEN_BY_SIX, THE_PIECE, on,
 };
 use std::test::Fail;
+use ways::MOST_SORTS;
 use yields::{Areas, areas, piece_counts};
 
 // So many of the first three pieces, and none of the others.
-fn of_three((first, second, third): (u32, u32, u32)) -> [u32; 16] {
+fn of_three((first, second, third): (u32, u32, u32)) -> [u32; MOST_SORTS] {
     [first, second, third, 0, 0, 0, 0, 0, 0, 0, 0, 0, 0, 0, 0, 0]
 }
 

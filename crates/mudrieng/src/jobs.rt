@@ -1,5 +1,6 @@
 // A job, read line by line.
-ghost use Rattle.std.specs.Prelude.{◌≡◌, min};
+ghost use Rattle.mudrieng.specs.Jobs.{numbers_of};
+ghost use Rattle.std.specs.Prelude.{◌≡◌, IfOk, min};
 
 use crate::faults::Fault;
 use std::alloc::{AllocError, Global};
@@ -23,7 +24,7 @@ pub struct SheetLine {
     pub blade: u64,
 }
 
-// A piece that is wanted, under its name.
+/// A piece that is wanted, under its name.
 #[derive(Drop)]
 pub struct Named {
     pub name: String,
@@ -36,21 +37,22 @@ impl Job {
             sheet: None,
             pieces: Vec::new(heap),
             unread: None,
-            lines: 0,
+            lines: text.lines().count(),
         };
-        for line in text.lines() {
-            match job.add(heap, line) {
-                Err(Fault::Refused(refusal)) => job.unread = job.unread.or(Some(refusal)),
-                added => added?,
+        for (k, line) in text.lines().enumerate() {
+            if let Err(fault) = job.add(heap, k, line) {
+                let Fault::Refused(refusal) = fault else {
+                    return Err(fault);
+                };
+                job.unread = job.unread.or(Some(refusal));
             }
-            job.lines = job.lines.saturating_add(1);
         }
         Ok(job)
     }
 
-    // Adds what the next line says. It is refused where it can't be read, and where it is a second one for the sheet.
-    fn add(&mut self, heap: Global, line: &str) -> Result<(), Fault> {
-        let refusal = Refusal::Line(self.lines);
+    // Adds what line k says. It is refused where it can't be read, and where it is a second one for the sheet.
+    fn add(&mut self, heap: Global, k: usize, line: &str) -> Result<(), Fault> {
+        let refusal = Refusal::Line(k);
         match Line::try_from(line).map_err(|_| refusal)? {
             Line::Blank => {}
             Line::Sheet(_) if self.sheet.is_some() => return Err(Fault::Refused(refusal)),
@@ -64,7 +66,9 @@ impl Job {
     }
 
     // Three for each piece: wide, high, worth.
-    pub(crate) fn numbers(&self, heap: Global) -> Result<Vec<u32>, AllocError> {
+    pub(crate) fn numbers(&self, heap: Global) -> Result<Vec<u32>, AllocError>
+        ensures { IfOk result (λ numbers. numbers.items ≡ numbers_of self.now.pieces.items) }
+    {
         let mut numbers = Vec::new(heap);
         for Named { piece, .. } in &self.pieces {
             numbers.extend_from_slice(&[piece.wide, piece.high, piece.worth])?;
@@ -89,7 +93,7 @@ impl<'a> TryFrom<&'a str> for Line<'a> {
 
     fn try_from(line: &'a str) -> Result<Line<'a>, Unreadable> {
         let mut words = Words(line.split_whitespace());
-        let Ok(first) = words.word() else {
+        let Some(first) = words.0.next() else {
             return Ok(Line::Blank);
         };
         if first.starts_with('#') {
@@ -100,10 +104,10 @@ impl<'a> TryFrom<&'a str> for Line<'a> {
             "piece" => Line::Piece(words.word()?, words.piece()?),
             _ => return Err(Unreadable),
         };
-        match words.word() {
-            Err(Unreadable) => Ok(line),
-            Ok(_) => Err(Unreadable),
+        if words.0.next().is_some() {
+            return Err(Unreadable);
         }
+        Ok(line)
     }
 }
 

@@ -1,8 +1,8 @@
 // Reads a job and prints what its sheet is worth, and a way to saw it.
 #![tactic(auto)]
 
+ghost use Rattle.mudrieng.specs.Jobs.{numbers_of, pieces_named};
 ghost use Rattle.std.specs.Prelude.{◌≡◌, ℕ, ◌*◌, ◌<◌, ◌≤◌, true, length, IfOk, None};
-ghost use Rattle.ways.specs.Input.{pieces_in};
 ghost use Rattle.ways.specs.Nodes.{node_ok};
 ghost use Rattle.ways.specs.Refusals.{sheet_fault, pieces_fault};
 ghost use Rattle.ways.specs.View.{pieces_of};
@@ -59,8 +59,7 @@ fn answer(heap: Global, text: &str) -> Result<String, Fault> {
     let mut room = vec![in heap; 0u16; sheet.room()]?;
     let count = left(sheet, numbers.as_slice(), room.as_mut_slice());
     let way = Shown {
-        nodes: room.as_slice(),
-        count,
+        nodes: &room.as_slice()[..4 * count],
         pieces: job.pieces.as_slice(),
     };
     Ok(format!(in heap; "worth {worth}\n{way}")?)
@@ -73,6 +72,7 @@ fn left(sheet: Sheet, numbers: &[u32], room: &mut [u16]) -> usize
     requires pieces { pieces_fault numbers.now ≡ None }
     requires room { 8 * (sheet.wide * sheet.high) ≤ length room.old }
     ensures some { 0 < result }
+    ensures within { 4 * result ≤ length room.new }
     ensures later { (k : ℕ) → k < result → node_ok room.new result k ≡ true }
 {
     let done = saw(
@@ -89,8 +89,10 @@ fn left(sheet: Sheet, numbers: &[u32], room: &mut [u16]) -> usize
 }
 
 // The sheet and the pieces of a job, or the first refusal that applies, wherever in the text it stands.
+#[tactic(auto, using(crate::proofs::Taking::pieces_numbered))]
 fn accepted(job: &Job, numbers: &[u32]) -> Result<(Sheet, Pieces), Refusal>
-    ensures { IfOk result (λ s. (sheet_fault s.0.wide s.0.high s.0.blade ≡ None) × (pieces_fault numbers.now ≡ None) × (pieces_of s.1 ≡ pieces_in numbers.now)) }
+    requires { numbers.now ≡ numbers_of job.now.pieces.items }
+    ensures { IfOk result (λ s. (sheet_fault s.0.wide s.0.high s.0.blade ≡ None) × (pieces_fault numbers.now ≡ None) × (pieces_of s.1 ≡ pieces_named job.now.pieces.items)) }
 {
     let sheet = match job.sheet {
         Some(line) => Some(Sheet::new(line.wide, line.high, line.blade)?),

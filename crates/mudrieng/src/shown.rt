@@ -1,19 +1,18 @@
 // A way in lines: a node a line, its parts two spaces further in.
-ghost use Rattle.std.specs.Prelude.{◌≡◌, ℕ, ◌<◌, ◌≤◌, true};
+ghost use Rattle.std.specs.Prelude.{◌≡◌, ℕ, ◌/◌, ◌<◌, ◌≤◌, true, length};
 ghost use Rattle.ways.specs.Nodes.{node_ok};
 
 use crate::jobs::Named;
 use std::fmt;
 use ways::Node;
 
-// So many nodes, of which each names later ones among them only, and the pieces that they name.
+// Nodes of which each names later ones among them only, and the pieces that they name.
 #[derive(Clone, Copy)]
 pub(crate) struct Shown<'a> {
     pub nodes: &'a [u16],
-    pub count: usize,
     pub pieces: &'a [Named],
-    ghost some: { 0 < count },
-    ghost later: { (k : ℕ) → k < count → node_ok nodes.now count k ≡ true },
+    ghost some: { 0 < length nodes.now / 4 },
+    ghost later: { (k : ℕ) → k < length nodes.now / 4 → node_ok nodes.now (length nodes.now / 4) k ≡ true },
 }
 
 impl fmt::Display for Shown<'_> {
@@ -25,7 +24,7 @@ impl fmt::Display for Shown<'_> {
 impl Shown<'_> {
     // The lines of the part that node i says.
     fn part<W: fmt::Write>(&self, f: &mut fmt::Formatter<W>, i: usize, depth: usize) -> fmt::Result
-        requires within { i < self.now.count }
+        requires within { i < length self.now.nodes.now / 4 }
         requires inner { depth ≤ i }
     {
         let Some(node) = Node::read(self.nodes, i) else {

@@ -9,7 +9,7 @@ ghost use Rattle.ways.specs.Sheet.{Way};
 
 use ways::{Cut, Node};
 
-// Who chooses what is done with each part.
+/// Who chooses what is done with each part.
 pub trait Chooser {
     // What a part is known by: its size, and whatever else the choice depends on.
     type Part;
@@ -28,8 +28,8 @@ pub trait Chooser {
         ensures { Fair (ready self.now) (spare self.now) (good self.now) part result };
 }
 
-// Writes a good way of a part from the front of the room on, and answers how many nodes it has. The caller shows that the part
-// may be asked for and that there is room: only who chooses knows what that takes, so nothing here could test it.
+/// Writes a good way of a part from the front of the room on, and answers how many nodes it has. The caller shows that the part
+/// may be asked for and that there is room: only who chooses knows what that takes, so nothing here could test it.
 pub fn write_way<C: Chooser>(chooser: &C, part: C::Part, room: &mut [u16]) -> usize
     requires ready { C.ready chooser.now part }
     requires numbered { C.spare chooser.now part < 65536 }
@@ -57,20 +57,14 @@ fn write_from<C: Chooser>(chooser: &C, part: C::Part, i: usize, room: &mut [u16]
             1
         }
         Node::Saw(cut) => {
-            let Cut {
-                orientation,
-                at,
-                first,
-                second,
-            } = cut;
-            let near = write_from(chooser, first, i + 1, &mut room[4..]);
-            let far = write_from(chooser, second, i + 1 + near, &mut room[4 + 4 * near..]);
+            let near = write_from(chooser, cut.first, i + 1, &mut room[4..]);
+            let far = write_from(chooser, cut.second, i + 1 + near, &mut room[4 + 4 * near..]);
             let (first, second) = ((i + 1) as u16, (i + 1 + near) as u16);
             put_node(
                 room,
                 Node::Saw(Cut {
-                    orientation,
-                    at,
+                    orientation: cut.orientation,
+                    at: cut.at,
                     first,
                     second,
                 }),

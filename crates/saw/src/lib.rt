@@ -10,8 +10,8 @@ ghost use Rattle.ways.specs.Sheet.{scrap};
 use nodes::{Chooser, write_way};
 use ways::{Node, Pieces, Refusal, Sheet};
 
-// What the entry answers. It is no `Result`, since it is fixed that the answer is this enum of numbers; whoever wants the refusal
-// itself finds it where the entry does, in `accept`.
+/// What the entry answers: numbers alone, and no `Result`, since users in other languages were promised this enum. Whoever wants the
+/// refusal itself asks `Sheet::new` and `Pieces::try_from`, as the entry does.
 #[derive(Clone, Copy, Debug, PartialEq, Eq)]
 pub enum Done {
     // How many nodes the way has, and what it is worth.
@@ -20,8 +20,8 @@ pub enum Done {
     Refused(u64),
 }
 
-// Saws a sheet with a blade for pieces of three numbers each: wide, high, worth. The way is left from the front of the room on,
-// four numbers a node.
+/// Saws a sheet with a blade for pieces of three numbers each: wide, high, worth. The way is left from the front of the room on,
+/// four numbers a node.
 pub fn saw(wide: u64, high: u64, blade: u64, pieces: &[u32], room: &mut [u16]) -> Done
     ensures done { DoneSays (refusal wide high blade pieces.now (length room.old)) (WayOf blade (pieces_in pieces.now) wide high) room.old result room.new }
     ensures judged { JudgeAgrees wide high blade (pieces_in pieces.now) result room.new }

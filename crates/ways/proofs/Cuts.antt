@@ -3,7 +3,8 @@ use Rattle.std.proofs.Common.{◌≡◌, ℕ, ◌+◌, ◌-◌, ◌<◌, ◌≤�
 use Rattle.std.proofs.lemmas.Bool.{and_parts, and_from}
 use Rattle.std.proofs.lemmas.Bool.Decides.{nat_tests}
 use Rattle.ways.specs.Adding.{Adds}
-use Rattle.ways.specs.Parts.{side_of, with_side, sawn}
+use Rattle.ways.specs.Parts.{side_of, with_side, sawn, CutsAt}
+use Rattle.ways.specs.declared.nodes.Cut.{Cut as Sawn}
 use Rattle.ways.specs.Sheet.{Way, upright, level, cut_ok, can, worth_of}
 use Rattle.ways.specs.declared.input.Piece.{Piece}
 use Rattle.ways.specs.declared.parts.Orientation.{Orientation}
@@ -94,3 +95,11 @@ pub record Smaller (p q : Part) : Type 0 where
 pub smaller : (o : Orientation) (p q : Part) (x : ℕ) → q ≡ with_side o p x → x < side_of o p.wide p.high → Smaller p q
 smaller Upright p q x e lt = rw e (record { narrow = omega arith; low = omega arith; less = omega arith })
 smaller Level p q y e lt = rw e (record { narrow = omega arith; low = omega arith; less = omega arith })
+
+-- so are the parts that a cut is said to leave
+module _ (blade : ℕ) (p : Part) (o : Orientation) (x : ℕ) (c : Sawn Part) (k : CutsAt blade p o x c) where
+  pub first_smaller : Smaller p c.first
+  first_smaller = smaller o p c.first x k.first (cut_ok_parts blade _ x k.allowed).proper
+
+  pub second_smaller : Smaller p c.second
+  second_smaller = let cut = cut_ok_parts blade _ x k.allowed in smaller o p c.second _ k.second (omega (arith, cut.some, cut.fits))

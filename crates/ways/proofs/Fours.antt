@@ -1,30 +1,30 @@
 -- A node read from the chunk of its four numbers. Assumes nothing.
-use Rattle.std.proofs.Common.{◌≡◌, ℕ, ◌+◌, ◌*◌, ◌/◌, ◌<◌, ◌≤◌, false, leb, List, length, get_or, None, Ok, Err, Result, refl, sym, ap, ◌∙◌, arith}
+use Rattle.std.proofs.Common.{◌≡◌, ℕ, ◌+◌, ◌*◌, ◌/◌, ◌<◌, ◌≤◌, false, leb, List, length, get_or, None, Ok, Err, Result, refl, sym, ◌∙◌, arith}
 use Rattle.std.proofs.lemmas.Bool.{le-leb, lt-leb}
 use Rattle.std.specs.Result.{result_ok}
 use Rattle.std.specs.Simd.{first_chunks}
 use Rattle.ways.specs.declared.nodes.Node.{Node}
 use Rattle.ways.specs.declared.nodes.UnknownKind.{UnknownKind}
 use Rattle.ways.specs.Nodes.{node_from, node_at, Reads}
-use Rattle.ways.proofs.Chunks.{in_chunk}
+use Rattle.ways.proofs.Chunks.{number}
 
 pub past_the_last : (xs : List ℕ) (i : ℕ) → length xs / 4 ≤ i → None ≡ node_at xs i
 unfolding node_at
 past_the_last xs i le = let past : leb (4 * i + 4) (length xs) ≡ false = lt-leb (4 * i + 4) (length xs) (omega arith) in rw past refl
 
 module _ (xs four d : List ℕ) (i : ℕ) (lt : i < length xs / 4) (is : four ≡ get_or (first_chunks 4 (length xs / 4) xs) i d) where
-  number : (j at : ℕ) → j < 4 → at ≡ i * 4 + j → get_or four j 0 ≡ get_or xs at 0
-  number j at less e = ap (λ z. get_or z j 0) is ∙ in_chunk 4 (length xs / 4) i j xs d lt less ∙ ap (λ m. get_or xs m 0) (sym e)
+  at_four : (j at : ℕ) → j < 4 → at ≡ i * 4 + j → get_or four j 0 ≡ get_or xs at 0
+  at_four = number 4 (length xs / 4) i xs four d lt is
 
   same : node_from (get_or four 0 0) (get_or four 1 0) (get_or four 2 0) (get_or four 3 0) ≡ node_at xs i
   unfolding node_at
   same =
       rw (
         le-leb (4 * i + 4) (length xs) (omega arith),
-        number 0 (4 * i) (omega arith) (omega arith),
-        number 1 (4 * i + 1) (omega arith) (omega arith),
-        number 2 (4 * i + 2) (omega arith) (omega arith),
-        number 3 (4 * i + 3) (omega arith) (omega arith),
+        at_four 0 (4 * i) (omega arith) (omega arith),
+        at_four 1 (4 * i + 1) (omega arith) (omega arith),
+        at_four 2 (4 * i + 2) (omega arith) (omega arith),
+        at_four 3 (4 * i + 3) (omega arith) (omega arith),
       )
       refl
 

@@ -37,19 +37,6 @@ never : (t : Bool) → None ≡ only_if t None
 never true = refl
 never false = refl
 
--- what a `cond` that was answered tells of its test
-cond_none : (t : Bool) (v : ℕ) → None ≡ cond t (Some v) None → t ≡ false
-cond_none true v e = absurd (none-some v e)
-cond_none false v e = refl
-
--- the same of what is left of a side
-module _ (blade side told x : ℕ) (is : told ≡ side) where
-  pub no_rest : None ≡ cond (cut_ok blade told x) (Some (told - (x + blade))) None → cut_ok blade side x ≡ false
-  no_rest e = rw (← is) (cond_none _ _ e)
-
-  pub some_rest : (r : ℕ) → Some r ≡ cond (cut_ok blade told x) (Some (told - (x + blade))) None → (cut_ok blade side x ≡ true) × (r ≡ side - (x + blade))
-  some_rest r e = let told = cond_some _ _ _ (sym e) in rw (← is) (told.0, sym told.1)
-
 pub there : (xs : List ℕ) (i : ℕ) (node : Node ℕ) → node_at xs i ≡ Some node → i < length xs / 4
 there xs i node e = elim (cases_lt i (length xs / 4)) [ inl lt ↦ lt | inr le ↦ absurd (none-some node (past_the_last xs i le ∙ e)) ]
 
@@ -98,11 +85,11 @@ module _ (blade : ℕ) (ps : List Piece) (xs : List ℕ) where
     pub splits : (l : ℕ) → worth_here (suc l) i p ≡ only_if ok (both (worth_here l a near) (worth_here l b far))
 
   pub split_saw :
-      (i : ℕ) (p : Part) (node : Node ℕ) → Some node ≡ node_at xs i → true ≡ all_later (length xs / 4) i (Some node) →
-      (c : Cut ℕ) (rest : ℕ) → node ≡ Saw c → rest ≡ side_of c.orientation p.wide p.high - (c.at + blade) →
-      Split (cut_ok blade (side_of c.orientation p.wide p.high) c.at) i p c.first (with_side c.orientation p c.at) c.second (with_side c.orientation p rest)
+      (i : ℕ) (p : Part) (node : Node ℕ) → Some node ≡ node_at xs i → true ≡ all_later (length xs / 4) i (Some node) → (c : Cut ℕ) → node ≡ Saw c →
+      let side = side_of c.orientation p.wide p.high in
+      Split (cut_ok blade side c.at) i p c.first (with_side c.orientation p c.at) c.second (with_side c.orientation p (side - (c.at + blade)))
   unfolding worth_from sound node_ok both_parts way_at way_from
-  split_saw i p node read later c rest is left =
+  split_saw i p node read later c is =
       let ok : true ≡ all_later n i (Some (Saw c)) = rw is at later in
       let near = with_side c.orientation p c.at in
       let far = with_side c.orientation p (side_of c.orientation p.wide p.high - (c.at + blade)) in
@@ -111,7 +98,7 @@ module _ (blade : ℕ) (ps : List Piece) (xs : List ℕ) where
         first_later = (both_later n i c.first c.second (sym ok)).first_after;
         second_later = (both_later n i c.first c.second (sym ok)).second_after;
         splits = λ l. let first = way_at xs l c.first in let second = way_at xs l c.second in
-            rw (left, ← read, is, ← ok, can_sawn blade ps c.orientation p c.at first second, worth_sawn ps c.orientation c.at first second)
+            rw (← read, is, ← ok, can_sawn blade ps c.orientation p c.at first second, worth_sawn ps c.orientation c.at first second)
             (regroup (cut_ok blade (side_of c.orientation p.wide p.high) c.at) (sound xs n l c.first) (can blade ps near.wide near.high first)
             (sound xs n l c.second) (can blade ps far.wide far.high second) (worth_of ps first) (worth_of ps second));
       }

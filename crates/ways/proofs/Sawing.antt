@@ -1,100 +1,92 @@
 -- Sawing a sheet is such a problem, so every sheet has a best way. Assumes nothing.
-use Rattle.std.proofs.Common.{◌≡◌, ℕ, ◌+◌, ◌-◌, ◌<◌, true, ◌⊎◌, List, length, refl, inl, inr, arith}
+use Rattle.std.proofs.Common.{◌≡◌, ℕ, ◌+◌, ◌-◌, ◌<◌, true, ◌⊎◌, List, length, refl, ap, inl, inr, arith}
 use Rattle.std.proofs.lemmas.Bool.{both_ways, cases_Bool, cases_lt}
 use Rattle.std.proofs.lemmas.Bool.Decides.{nat_tests}
+use Rattle.ways.specs.Parts.{side_of, with_side, sawn}
 use Rattle.ways.specs.Sheet.{Way, scrap, take, upright, level, piece_fits, can, worth_of, Best}
 use Rattle.ways.specs.declared.input.Piece.{Piece}
-use Rattle.ways.proofs.Cuts.{Cut, upright_parts, upright_from, level_parts, level_from}
+use Rattle.ways.specs.declared.parts.Orientation.{Orientation}
+use Rattle.ways.specs.declared.parts.Orientation.TheVariants.{Upright, Level}
+use Rattle.ways.specs.declared.parts.Part.{Part}
+use Rattle.ways.proofs.Cuts.{Cut, sawn_parts, sawn_from, worth_sawn, smaller}
 use Rattle.ways.proofs.Fits.{fits_past}
 use Rattle.ways.proofs.Search.{Order, numbers, Top, Finds, top_one, top_both, finds_below, finds_where, finds_either}
 use Rattle.ways.proofs.Problem.{Problem, best}
 
--- where a sheet is sawn
-pub data Line : Type 0 where
-  upright_at : ℕ → Line
-  level_at : ℕ → Line
+-- where a part is sawn: which way, and how far from the beginning of that side
+pub record Line : Type 0 where
+  pub way : Orientation
+  pub at : ℕ
 
-abbrev pub join : Line → Way → Way → Way
-join (upright_at x) a b = upright x a b
-join (level_at y) a b = level y a b
-
--- the sheet is its width and its height
-abbrev pub Size : Type 0
-Size = ℕ × ℕ
+abbrev pub line : Orientation → ℕ → Line
+line o x = record { way = o; at = x }
 
 module _ (blade : ℕ) where
-  abbrev pub Ok : Size → Line → Type 0
-  Ok s (upright_at x) = Cut blade s.0 x
-  Ok s (level_at y) = Cut blade s.1 y
+  abbrev pub Ok : Part → Line → Type 0
+  Ok p k = Cut blade (side_of k.way p.wide p.high) k.at
 
-  abbrev pub first : Size → Line → Size
-  first s (upright_at x) = (x, s.1)
-  first s (level_at y) = (s.0, y)
+  abbrev pub first : Part → Line → Part
+  first p k = with_side k.way p k.at
 
-  abbrev pub second : Size → Line → Size
-  second s (upright_at x) = (s.0 - (x + blade), s.1)
-  second s (level_at y) = (s.0, s.1 - (y + blade))
+  abbrev pub second : Part → Line → Part
+  second p k = with_side k.way p (side_of k.way p.wide p.high - (k.at + blade))
 
-  pub less : (s : Size) (k : Line) → Ok s k → ((first s k).0 + (first s k).1 < s.0 + s.1) × ((second s k).0 + (second s k).1 < s.0 + s.1)
-  less s (upright_at x) c = omega arith
-  less s (level_at y) c = omega arith
+  pub less : (p : Part) (k : Line) → Ok p k → ((first p k).wide + (first p k).high < p.wide + p.high) × ((second p k).wide + (second p k).high < p.wide + p.high)
+  less p k c =
+      ((smaller k.way p (first p k) k.at refl c.proper).less, (smaller k.way p (second p k) (side_of k.way p.wide p.high - (k.at + blade)) refl (omega (arith, c.some, c.fits))).less)
 
-  lines : (s : Size) (k : Line) → Ok s k → ((x : ℕ) × (upright_at x ≡ k)) ⊎ ((y : ℕ) × (level_at y ≡ k))
-  lines s (upright_at x) c = inl (x, refl)
-  lines s (level_at y) c = inr (y, refl)
+  lines : (p : Part) (k : Line) → Ok p k → ((x : ℕ) × (line Upright x ≡ k)) ⊎ ((y : ℕ) × (line Level y ≡ k))
+  lines p k c = either k.way refl where
+    either : (o : Orientation) → o ≡ k.way → ((x : ℕ) × (line Upright x ≡ k)) ⊎ ((y : ℕ) × (line Level y ≡ k))
+    either Upright e = inl (k.at, ap (λ o. line o k.at) e)
+    either Level e = inr (k.at, ap (λ o. line o k.at) e)
 
   cases_cut : (side x : ℕ) → Cut blade side x ⊎ (Cut blade side x → ⊥)
   cases_cut side x = grind (arith, nat_tests)
 
   -- the cuts of a sheet can be gone through, since there is none at or past its end
-  pub cuts : {V : Type 0} (O : Order V) (v : Way → V) (P : Way → Type 0) → P scrap → (s : Size) → Finds O v P (Ok s)
-  cuts O v P p s = finds_either O v P (Ok s) upright_at level_at (lines s) (along s.0) (along s.1)
+  pub cuts : {V : Type 0} (O : Order V) (v : Way → V) (P : Way → Type 0) → P scrap → (s : Part) → Finds O v P (Ok s)
+  cuts O v P p s = finds_either O v P (Ok s) (line Upright) (line Level) (lines s) (along s.wide) (along s.high)
     where
       along : (side : ℕ) → Finds O v P (Cut blade side)
       along side = finds_where O v P (λ x. x < side) (Cut blade side) scrap p (cases_cut side) (λ x c. c.proper) (finds_below O v P scrap p side)
 
 module _ (blade : ℕ) (ps : List Piece) where
-  abbrev pub Can : Size → Way → Type 0
-  Can s a = can blade ps s.0 s.1 a ≡ true
+  abbrev pub Can : Part → Way → Type 0
+  Can s a = can blade ps s.wide s.high a ≡ true
 
-  scrap_can : (s : Size) → Can s scrap
+  scrap_can : (s : Part) → Can s scrap
   unfolding can
   scrap_can s = refl
 
   -- the sheet lies as it is: scrap, or a piece
-  abbrev pub Lies : Size → Way → Type 0
-  Lies s b = (b ≡ scrap) ⊎ ((k : ℕ) × (piece_fits ps k s.0 s.1 ≡ true) × (b ≡ take k))
+  abbrev pub Lies : Part → Way → Type 0
+  Lies s b = (b ≡ scrap) ⊎ ((k : ℕ) × (piece_fits ps k s.wide s.high ≡ true) × (b ≡ take k))
 
-  fits_below : (s : Size) (k : ℕ) → piece_fits ps k s.0 s.1 ≡ true → k < length ps
-  fits_below s k e = elim (cases_lt k (length ps)) [ inl lt ↦ lt | inr ge ↦ absurd (both_ways _ (fits_past ps k s.0 s.1 ge) e) ]
+  fits_below : (s : Part) (k : ℕ) → piece_fits ps k s.wide s.high ≡ true → k < length ps
+  fits_below s k e = elim (cases_lt k (length ps)) [ inl lt ↦ lt | inr ge ↦ absurd (both_ways _ (fits_past ps k s.wide s.high ge) e) ]
 
-  pub lies : {V : Type 0} (O : Order V) (v : Way → V) (s : Size) → Top O v (Can s) (Lies s)
+  pub lies : {V : Type 0} (O : Order V) (v : Way → V) (s : Part) → Top O v (Can s) (Lies s)
   unfolding can
   lies O v s =
-      top_both O v (Can s) (λ b. b ≡ scrap) (λ b. (k : ℕ) × (piece_fits ps k s.0 s.1 ≡ true) × (b ≡ take k)) (top_one O v (Can s) scrap (scrap_can s))
-      (finds_where O v (Can s) (λ k. k < length ps) (λ k. piece_fits ps k s.0 s.1 ≡ true) scrap (scrap_can s)
-      (λ k. elim (cases_Bool (piece_fits ps k s.0 s.1)) [ inl e ↦ inl e | inr e ↦ inr (λ t. both_ways _ e t) ]) (fits_below s)
+      top_both O v (Can s) (λ b. b ≡ scrap) (λ b. (k : ℕ) × (piece_fits ps k s.wide s.high ≡ true) × (b ≡ take k)) (top_one O v (Can s) scrap (scrap_can s))
+      (finds_where O v (Can s) (λ k. k < length ps) (λ k. piece_fits ps k s.wide s.high ≡ true) scrap (scrap_can s)
+      (λ k. elim (cases_Bool (piece_fits ps k s.wide s.high)) [ inl e ↦ inl e | inr e ↦ inr (λ t. both_ways _ e t) ]) (fits_below s)
       (finds_below O v (Can s) scrap (scrap_can s) (length ps)) (λ k b. b ≡ take k) (λ k e. top_one O v (Can s) (take k) e))
 
-  pub joins : (s : Size) (k : Line) (a b : Way) → Ok blade s k → Can (first blade s k) a → Can (second blade s k) b → Can s (join k a b)
-  joins s (upright_at x) a b c p q = upright_from blade ps s.0 s.1 x a b c p q
-  joins s (level_at y) a b c p q = level_from blade ps s.0 s.1 y a b c p q
+  pub joins : (s : Part) (k : Line) (a b : Way) → Ok blade s k → Can (first blade s k) a → Can (second blade s k) b → Can s (sawn k.way k.at a b)
+  joins s k a b c p q = sawn_from blade ps k.way s k.at a b c p q
 
   pub parts :
-      (s : Size) (b : Way) → Can s b →
-      Lies s b ⊎ ((k : Line) × Ok blade s k × ((a : Way) × (c : Way) × (b ≡ join k a c) × Can (first blade s k) a × Can (second blade s k) c))
+      (s : Part) (b : Way) → Can s b →
+      Lies s b ⊎ ((k : Line) × Ok blade s k × ((a : Way) × (c : Way) × (b ≡ sawn k.way k.at a c) × Can (first blade s k) a × Can (second blade s k) c))
   unfolding can
   parts s scrap e = inl (inl refl)
   parts s (take k) e = inl (inr (k, e, refl))
-  parts s (upright x a b) e = let p = upright_parts blade ps s.0 s.1 x a b e in inr (upright_at x, p.0, (a, b, refl, p.1, p.2))
-  parts s (level y a b) e = let p = level_parts blade ps s.0 s.1 y a b e in inr (level_at y, p.0, (a, b, refl, p.1, p.2))
+  parts s (upright x a b) e = let p = sawn_parts blade ps Upright s x a b e in inr (line Upright x, p.0, (a, b, refl, p.1, p.2))
+  parts s (level y a b) e = let p = sawn_parts blade ps Level s y a b e in inr (line Level y, p.0, (a, b, refl, p.1, p.2))
 
-  adds : (k : Line) (a b : Way) → worth_of ps (join k a b) ≡ worth_of ps a + worth_of ps b
-  unfolding worth_of
-  adds (upright_at x) a b = refl
-  adds (level_at y) a b = refl
-
-  pub sawing : Problem Size Way Line ℕ
+  pub sawing : Problem Part Way Line ℕ
   sawing =
       record {
         order = numbers;
@@ -105,17 +97,17 @@ module _ (blade : ℕ) (ps : List Piece) where
         ok = Ok blade;
         first = first blade;
         second = second blade;
-        join = join;
+        join = λ k. sawn k.way k.at;
         joins = joins;
         parts = parts;
         plus = λ s k. ◌+◌;
-        adds = λ s. adds;
+        adds = λ s k. worth_sawn ps k.way k.at;
         grows = λ s k x y u t p q. omega arith;
         finds = λ s. cuts blade numbers (worth_of ps) (Can s) (scrap_can s) s;
-        size = λ s. s.0 + s.1;
+        size = λ s. s.wide + s.high;
         less = less blade;
       }
 
   pub has_best : (w h : ℕ) → (a : Way) × Best blade ps w h a
   unfolding Best sawing
-  has_best w h = let t = best sawing (w, h) in (t.it, (t.allowed, t.tops))
+  has_best w h = let t = best sawing (record { wide = w; high = h }) in (t.it, (t.allowed, t.tops))

@@ -7,7 +7,7 @@ use Rattle.ways.specs.declared.refusals.Refusal.TheVariants.{Piece as BadPiece}
 use Rattle.std.specs.Simd.{first_chunks}
 use Rattle.ways.specs.Input.{piece_from, piece_ok, pieces_in}
 use Rattle.ways.specs.Refusals.{fault_from}
-use Rattle.ways.proofs.Chunks.{in_chunk}
+use Rattle.ways.proofs.Chunks.{number}
 
 -- the piece that the numbers from n on stand for
 abbrev pub piece_at : List ℕ → ℕ → Piece
@@ -15,9 +15,9 @@ piece_at xs n = record { wide = get_or xs n 0; high = get_or xs (n + 1) 0; worth
 
 -- it is the one that chunk k stands for
 pub piece_in : (xs three d : List ℕ) (k : ℕ) → k < length xs / 3 → three ≡ get_or (first_chunks 3 (length xs / 3) xs) k d → piece_from three ≡ piece_at xs (3 * k)
-piece_in xs three d k lt is = rw (number 0 (3 * k) (omega arith) (omega arith), number 1 (3 * k + 1) (omega arith) (omega arith), number 2 (3 * k + 2) (omega arith) (omega arith)) refl where
-  number : (j at : ℕ) → j < 3 → at ≡ k * 3 + j → get_or three j 0 ≡ get_or xs at 0
-  number j at less e = ap (λ z. get_or z j 0) is ∙ in_chunk 3 (length xs / 3) k j xs d lt less ∙ ap (λ m. get_or xs m 0) (sym e)
+piece_in xs three d k lt is =
+    let at_three = number 3 (length xs / 3) k xs three d lt is in
+    rw (at_three 0 (3 * k) (omega arith) (omega arith), at_three 1 (3 * k + 1) (omega arith) (omega arith), at_three 2 (3 * k + 2) (omega arith) (omega arith)) refl
 
 -- the first k pieces are held, and none of them is wrong
 pub record SoFar (xs : List ℕ) (k count : ℕ) (held : List Piece) : Type 0 where

@@ -1,5 +1,6 @@
 -- What is turned away, by number and place. Assumes nothing: these are definitions.
-use Rattle.std.specs.Prelude.{ℕ, ◌+◌, ◌*◌, cond, ◌&&◌, List, [], ◌∷◌, Some, None, Option, nat_le, nat_lt}
+use Rattle.std.specs.Fmt.{decimal}
+use Rattle.std.specs.Prelude.{ℕ, ◌+◌, ◌*◌, cond, ◌&&◌, List, [], ◌∷◌, ◌++◌, Some, None, Option, codes, nat_le, nat_lt}
 use Rattle.ways.specs.Input.{piece_ok}
 use Rattle.ways.specs.declared.refusals.Refusal.{Refusal}
 use Rattle.ways.specs.declared.refusals.Refusal.TheVariants.{Wide, High, Blade, Piece, Room, Line}
@@ -21,6 +22,19 @@ place_of Blade = 2
 place_of (Piece k) = k
 place_of (Room n) = n
 place_of (Line k) = k
+
+-- what is said of it
+abbrev pub words_of : Refusal → List ℕ
+words_of Wide = codes "the sheet's width has to be 1 to 60"
+words_of High = codes "the sheet's height has to be 1 to 60"
+words_of Blade = codes "the blade may take 60 at most"
+words_of (Piece k) = codes "there may be sixteen pieces, each at least 1 wide and high and worth 100000 at most"
+words_of (Room n) = codes "the room has to have eight numbers for each square of the sheet"
+words_of (Line k) = codes "a job has one line 'sheet WIDE HIGH blade BLADE' and lines 'piece NAME WIDE HIGH WORTH'"
+
+-- with its number and place
+abbrev pub text_of : Refusal → List ℕ
+text_of e = codes "refused " ++ decimal (number_of e) ++ codes " at " ++ decimal (place_of e) ++ codes ": " ++ words_of e
 
 -- a sheet is 1 to 60 wide and high, and a blade takes 60 at most
 unfoldable pub sheet_fault : (wide high blade : ℕ) → Option Refusal

@@ -8,16 +8,16 @@ use crate::input::Piece;
 use crate::parts::Part;
 use crate::refusals::Refusal;
 
-// The widest and the highest that a sheet may be, and the most that a blade may take.
-const LARGEST: u64 = 60;
+/// The widest and the highest that a sheet may be, and the most that a blade may take.
+pub const LONGEST: u64 = 60;
 
-// The most sorts of pieces.
+/// The most sorts of pieces.
 pub const MOST_SORTS: usize = 16;
 
 // The most that a piece may be worth.
 const DEAREST: u32 = 100_000;
 
-// So many wide and high, 1 to 60 each, and what the blade takes (the kerf), 0 to 60.
+/// So many wide and high, 1 to 60 each, and what the blade takes (the kerf), 0 to 60.
 #[derive(Clone, Copy)]
 pub struct Sheet {
     wide: usize,
@@ -26,8 +26,8 @@ pub struct Sheet {
     ghost ok: { (1 ≤ wide) × (wide ≤ 60) × (1 ≤ high) × (high ≤ 60) × (blade ≤ 60) },
 }
 
-// The sorts of pieces that are wanted, sixteen at most. They are an array with a count, since an `ArrayVec` isn't `Copy` and
-// pieces are passed by value.
+/// The sorts of pieces that are wanted, sixteen at most. They are an array with a count, since `Pieces` is `Copy` and an `ArrayVec`
+/// isn't.
 #[derive(Clone, Copy)]
 pub struct Pieces {
     list: [Piece; MOST_SORTS],
@@ -41,13 +41,13 @@ impl Sheet {
     pub fn new(wide: u64, high: u64, blade: u64) -> Result<Sheet, Refusal>
         ensures { MatchResult result (λ s. (sheet_fault wide high blade ≡ None) × (s.wide ≡ wide) × (s.high ≡ high) × (s.blade ≡ blade)) (λ e. sheet_fault wide high blade ≡ Some e) }
     {
-        if wide < 1 || wide > LARGEST {
+        if wide < 1 || wide > LONGEST {
             return Err(Refusal::Wide);
         }
-        if high < 1 || high > LARGEST {
+        if high < 1 || high > LONGEST {
             return Err(Refusal::High);
         }
-        if blade > LARGEST {
+        if blade > LONGEST {
             return Err(Refusal::Blade);
         }
         Ok(Sheet {
@@ -75,7 +75,7 @@ impl Sheet {
         self.blade
     }
 
-    // The part that is all of it.
+    /// The part that is all of it.
     pub fn whole(&self) -> Part
         ensures wide { result.wide ≡ self.now.wide }
         ensures high { result.high ≡ self.now.high }
@@ -86,7 +86,7 @@ impl Sheet {
         }
     }
 
-    // The fewest numbers that a room for its nodes may have: eight for each square.
+    /// The fewest numbers that a room for its nodes may have: eight for each square.
     pub fn room(&self) -> usize
         ensures { result ≡ 8 * (self.now.wide * self.now.high) }
     {

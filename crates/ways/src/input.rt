@@ -4,7 +4,7 @@ ghost use Rattle.ways.specs.Input.{piece_from};
 
 use crate::parts::Part;
 
-// A piece that is wanted (an item): so wide, so high, and worth so much.
+/// A piece that is wanted (an item): so wide, so high, and worth so much.
 #[derive(Clone, Copy, Debug, Default, PartialEq, Eq)]
 pub struct Piece {
     pub wide: u32,
@@ -13,7 +13,7 @@ pub struct Piece {
 }
 
 impl Piece {
-    // It fits a part only if it is just as wide and as high.
+    /// It fits a part only if it is just as wide and as high.
     pub fn fits(self, part: Part) -> bool
         ensures { result ≡ (self.wide == part.wide && self.high == part.high) }
     {

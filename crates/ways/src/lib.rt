@@ -1,10 +1,10 @@
 // Sheets, pieces and ways of sawing a sheet, and what judges a way.
 #![tactic(auto)]
 
-ghost use Rattle.std.specs.Prelude.{◌≡◌, ℕ, ◌+◌, ◌-◌, ◌/◌, ◌≤◌, length, if◌then◌else◌, Some, None};
+ghost use Rattle.std.specs.Prelude.{◌≡◌, ℕ, ◌+◌, ◌/◌, ◌≤◌, length, if◌then◌else◌, Some, None};
 ghost use Rattle.ways.specs.Judged.{judged, worth_from};
 ghost use Rattle.ways.specs.Nodes.{comes_later, all_later};
-ghost use Rattle.ways.specs.Sheet.{cut_ok, piece_fits, worth_at};
+ghost use Rattle.ways.specs.Sheet.{piece_fits, worth_at};
 ghost use Rattle.ways.specs.View.{pieces_of};
 
 mod checked;
@@ -13,42 +13,55 @@ mod nodes;
 mod parts;
 mod refusals;
 
-pub use checked::{MOST_SORTS, Pieces, Sheet};
+pub use checked::{LONGEST, MOST_SORTS, Pieces, Sheet};
 pub use input::Piece;
 pub use nodes::{Cut, Node, UnknownKind};
 pub use parts::{Orientation, Part};
 pub use refusals::Refusal;
 
-// Judges nodes of four numbers each, of which the first is the way: what it is worth, if it can be sawn. A node that names itself,
-// an earlier or a missing one is no way, nor is one of a kind above 3; numbers that a node doesn't need and nodes that the way
-// doesn't reach are of no matter.
+/// Judges nodes of four numbers each, of which the first is the way: what it is worth, if it can be sawn. A node that names itself,
+/// an earlier or a missing one is no way, nor is one of a kind above 3; numbers that a node doesn't need and nodes that the way
+/// doesn't reach are of no matter.
 #[tactic(auto, unfolding(crate::specs::Judged::judged))]
 pub fn judge(sheet: Sheet, pieces: &Pieces, numbers: &[u16]) -> Option<u32>
     ensures { result ≡ judged sheet.blade (pieces_of pieces.now) sheet.wide sheet.high numbers.now }
 {
-    part_worth(numbers, 0, pieces, sheet.blade(), sheet.whole())
+    let lent = Lent {
+        sheet,
+        pieces,
+        numbers,
+    };
+    lent.part_worth(0, sheet.whole())
 }
 
-// What a part is worth, sawn as node i says. Every cut makes its parts smaller, so the sheet bounds how many nodes are looked at,
-// however many name the same one. How large the part is, is asked here and not in `Part`, whose users may ask of any size.
-fn part_worth(numbers: &[u16], i: usize, pieces: &Pieces, blade: usize, part: Part) -> Option<u32>
-    requires small { (blade ≤ 60) × ((part.wide ≤ 60) × (part.high ≤ 60)) }
-    ensures { (l : ℕ) → length numbers.now / 4 ≤ l + i → result ≡ worth_from blade (pieces_of pieces.now) numbers.now (length numbers.now / 4) l i part.wide part.high }
-{
-    let node = Node::read(numbers, i)?;
-    if !names_later(node, i, numbers.len() / 4) {
-        return None;
-    }
-    match node {
-        Node::Scrap => Some(0),
-        Node::Take { piece } => fitting(pieces.as_slice(), piece, part),
-        Node::Saw(cut) => {
-            let rest = beyond(blade, part.side(cut.orientation), cut.at)?;
-            let near = part.with_side(cut.orientation, cut.at as usize);
-            let far = part.with_side(cut.orientation, rest);
-            let first = part_worth(numbers, cut.first as usize, pieces, blade, near)?;
-            let second = part_worth(numbers, cut.second as usize, pieces, blade, far)?;
-            Some(first + second)
+// What is judged: a way's numbers, and what it is sawn from and for.
+#[derive(Clone, Copy)]
+struct Lent<'a> {
+    sheet: Sheet,
+    pieces: &'a Pieces,
+    numbers: &'a [u16],
+}
+
+impl Lent<'_> {
+    // What a part is worth, sawn as node i says. Every cut makes its parts smaller, so the sheet bounds how many nodes are looked
+    // at, however many name the same one. How large the part is, is asked here and not in `Part`, whose users may ask of any size.
+    fn part_worth(&self, i: usize, part: Part) -> Option<u32>
+        requires { (part.wide ≤ 60) × (part.high ≤ 60) }
+        ensures { (l : ℕ) → length self.now.numbers.now / 4 ≤ l + i → result ≡ worth_from self.now.sheet.blade (pieces_of self.now.pieces.now) self.now.numbers.now (length self.now.numbers.now / 4) l i part.wide part.high }
+    {
+        let node = Node::read(self.numbers, i)?;
+        if !names_later(node, i, self.numbers.len() / 4) {
+            return None;
+        }
+        match node {
+            Node::Scrap => Some(0),
+            Node::Take { piece } => fitting(self.pieces.as_slice(), piece, part),
+            Node::Saw(cut) => {
+                let parts = part.sawn(cut.orientation, cut.at, self.sheet.blade())?;
+                let first = self.part_worth(cut.first as usize, parts.first)?;
+                let second = self.part_worth(cut.second as usize, parts.second)?;
+                Some(first + second)
+            }
         }
     }
 }
@@ -60,23 +73,6 @@ fn fitting(pieces: &[Piece], k: u16, part: Part) -> Option<u32>
 {
     let p = pieces.get(k as usize)?;
     if p.fits(part) { Some(p.worth) } else { None }
-}
-
-// A cut leaves at least so much on its first side.
-const LEAST: u16 = 1;
-
-// What is left of a side beyond the blade, if it may be sawn through at x.
-#[tactic(auto, unfolding(crate::specs::Sheet::cut_ok))]
-fn beyond(blade: usize, side: usize, x: u16) -> Option<usize>
-    requires { blade ≤ 60 }
-    ensures { result ≡ (if cut_ok blade side x then Some (side - (x + blade)) else None) }
-{
-    let end = x as usize + blade;
-    if x >= LEAST && end <= side && (blade >= 1 || end < side) {
-        Some(side - end)
-    } else {
-        None
-    }
 }
 
 // Node i names only nodes that come after it, among so many.

@@ -1,11 +1,11 @@
 // Why something is turned away, by number and place.
-ghost use Rattle.std.specs.Prelude.{◌≡◌};
-ghost use Rattle.ways.specs.Refusals.{number_of, place_of};
+ghost use Rattle.std.specs.Prelude.{◌≡◌, Some};
+ghost use Rattle.ways.specs.Refusals.{number_of, place_of, words_of, text_of};
 
 use std::error::Error;
 use std::fmt;
 
-// The refusals in the order in which they are looked for. Places count from 0.
+/// The refusals in the order in which they are looked for. Places count from 0.
 #[derive(Clone, Copy, Debug, PartialEq, Eq)]
 pub enum Refusal {
     // The sheet isn't 1 to 60 wide.
@@ -48,12 +48,12 @@ impl Refusal {
             Refusal::Line(k) => *k,
         }
     }
-}
 
-impl fmt::Display for Refusal {
-    fn fmt<W: fmt::Write>(&self, f: &mut fmt::Formatter<W>) -> fmt::Result {
-        let (number, place) = (self.number(), self.place());
-        let words = match self {
+    // What has to be so.
+    fn words(&self) -> &'static str
+        ensures { result.now ≡ words_of self.now }
+    {
+        match self {
             Refusal::Wide => "the sheet's width has to be 1 to 60",
             Refusal::High => "the sheet's height has to be 1 to 60",
             Refusal::Blade => "the blade may take 60 at most",
@@ -64,7 +64,15 @@ impl fmt::Display for Refusal {
             Refusal::Line(_) => {
                 "a job has one line 'sheet WIDE HIGH blade BLADE' and lines 'piece NAME WIDE HIGH WORTH'"
             }
-        };
+        }
+    }
+}
+
+impl fmt::Display for Refusal {
+    ghost output = { λ e. Some (text_of e) };
+
+    fn fmt<W: fmt::Write>(&self, f: &mut fmt::Formatter<W>) -> fmt::Result {
+        let (number, place, words) = (self.number(), self.place(), self.words());
         write!(f, "refused {number} at {place}: {words}")
     }
 }

@@ -1,14 +1,16 @@
 -- A cut that was looked for, as the table says it. Assumes nothing.
-use Rattle.std.proofs.Common.{◌≡◌, ℕ, ◌+◌, ◌-◌, ◌≤◌, ◌&&◌, leb, Some, None, Option, sym, refl, ◌∙◌}
-use Rattle.std.proofs.lemmas.Bool.{and_parts, leb-true}
+use Rattle.std.proofs.Common.{◌≡◌, ℕ, ◌+◌, ◌≤◌, ◌&&◌, leb, Some, None, Option, MatchOption, false, subst, sym, ◌∙◌}
+use Rattle.std.proofs.lemmas.Bool.{and_parts, false≢true, leb-true}
 use Rattle.std.proofs.lemmas.Option.{cond_some, none-some}
 use Rattle.ways.proofs.Cuts.{cut_ok_parts}
-use Rattle.ways.specs.Parts.{side_of, with_side}
+use Rattle.ways.specs.Parts.{side_of, CutsAt}
+use Rattle.ways.specs.Sheet.{cut_ok}
+use Rattle.ways.specs.declared.nodes.Cut.{Cut}
 use Rattle.ways.specs.declared.parts.Orientation.{Orientation}
 use Rattle.ways.specs.declared.parts.Orientation.TheVariants.{Upright, Level}
 use Rattle.ways.specs.declared.parts.Part.{Part}
 use Rattle.worths.specs.Cuts.{part_of}
-use Rattle.worths.specs.Found.{Reaching, FoundCut, CutFound}
+use Rattle.worths.specs.Found.{Reaching, CutFound}
 use Rattle.worths.specs.Table.{cell, value_at, HasPlace}
 use Rattle.worths.specs.declared.Values.{Values}
 use Rattle.worths.proofs.Says.{value_there}
@@ -47,17 +49,14 @@ module _ (t : Values) (o : Orientation) (p : Part) where
       cut_missing none inside x good sum = (rw same at none) x good (sum ∙ sym (value_said t p.wide p.high v said).2)
 
       pub cut_found :
-          (x : ℕ) → Reached (Some x) →
-          FoundCut t o p (record { orientation = o; at = x; first = with_side o p x; second = with_side o p (side_of o p.wide p.high - (x + t.sheet.blade)) })
-      cut_found x found =
+          (x : ℕ) → Reached (Some x) → (r : Option (Cut Part)) → MatchOption r (cut_ok t.sheet.blade (side_of o p.wide p.high) x ≡ false) (CutsAt t.sheet.blade p o x) → CutFound t o p r
+      cut_found x found None k = absurd (false≢true (sym k ∙ (rw same at found).0))
+      cut_found x found (Some c) k =
           let inside = value_said t p.wide p.high v said in
           let there = rw same at place in
           let reached = rw same at found in
           record {
             inside = record { some_wide = there.0; some_high = there.2; narrow = inside.0; low = inside.1 };
-            oriented = refl;
-            allowed = reached.0;
-            first = refl;
-            second = refl;
-            sum = reached.1 ∙ inside.2;
+            cuts = subst (λ y. CutsAt t.sheet.blade p o y c) (sym k.at) k;
+            sum = rw (k.first, k.second) (reached.1 ∙ inside.2);
           }

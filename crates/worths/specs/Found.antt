@@ -1,6 +1,6 @@
 -- A cut whose two parts are worth what the part is. Assumes nothing: these are definitions.
 use Rattle.std.specs.Prelude.{◌≡◌, ℕ, ◌+◌, ◌-◌, ◌≤◌, true, Some, None, Option, ◌≢◌}
-use Rattle.ways.specs.Parts.{side_of, with_side}
+use Rattle.ways.specs.Parts.{side_of, CutsAt}
 use Rattle.ways.specs.Sheet.{cut_ok}
 use Rattle.ways.specs.declared.nodes.Cut.{Cut}
 use Rattle.ways.specs.declared.parts.Orientation.{Orientation}
@@ -25,10 +25,7 @@ pub record Inside (t : Values) (p : Part) : Type 0 where
 -- a cut of such a part, of that orientation, into its two parts; together they are worth what it is, as the table says
 pub record FoundCut (t : Values) (o : Orientation) (p : Part) (c : Cut Part) : Type 0 where
   pub inside : Inside t p
-  pub oriented : c.orientation ≡ o
-  pub allowed : cut_ok t.sheet.blade (side_of o p.wide p.high) c.at ≡ true
-  pub first : c.first ≡ with_side o p c.at
-  pub second : c.second ≡ with_side o p (side_of o p.wide p.high - (c.at + t.sheet.blade))
+  pub cuts : CutsAt t.sheet.blade p o c.at c
   pub sum : cell t.cells c.first.wide c.first.high + cell t.cells c.second.wide c.second.high ≡ cell t.cells p.wide p.high
 
 -- such a cut, or none where no cut of that orientation is one

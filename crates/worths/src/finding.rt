@@ -8,8 +8,8 @@ use crate::place::Place;
 use ways::{Cut, Orientation, Part};
 
 impl Values {
-    // A cut of a part whose two parts are together worth what the part is, if there is one of that orientation. None is answered of
-    // an empty part, and of one that is wider or higher than the sheet.
+    /// A cut of a part whose two parts are together worth what the part is, if there is one of that orientation. None is answered of
+    /// an empty part, and of one that is wider or higher than the sheet.
     #[tactic(auto, using(crate::proofs::Found::cut_within))]
     pub fn find_cut(&self, orientation: Orientation, part: Part) -> Option<Cut<Part>>
         ensures { CutFound self.now orientation part result }
@@ -17,13 +17,7 @@ impl Values {
         let place = Place::of(part)?;
         let worth = self.worth(part)?;
         let at = self.cut_worth(orientation, place, worth)?;
-        let beyond = part.side(orientation) - (at + self.sheet.blade());
-        Some(Cut {
-            orientation,
-            at: at as u16,
-            first: part.with_side(orientation, at),
-            second: part.with_side(orientation, beyond),
-        })
+        part.sawn(orientation, at as u16, self.sheet.blade())
     }
 
     // Where the cut nearest to the middle is, of that orientation, whose two parts are worth so much together. It is found in the

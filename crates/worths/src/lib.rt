@@ -17,21 +17,21 @@ mod place;
 mod uncut;
 
 pub use lies::Lying;
-use place::Place;
+use place::{LONGEST, Place};
 pub use uncut::Uncut;
 use ways::{Orientation, Part, Pieces, Sheet};
 
-// How many numbers the table has: 60 widths of 60 heights.
-const CELLS: usize = 3600;
+// How many numbers the table has: one for each width and height.
+const CELLS: usize = LONGEST * LONGEST;
 
-// What a sheet, and each that is no wider and no higher, is worth: 3,600 numbers by value, with no heap.
+/// What a sheet, and each that is no wider and no higher, is worth: 3,600 numbers by value, with no heap.
 #[derive(Drop)]
 pub struct Values {
     sheet: Sheet,
     cells: [u32; CELLS],
 }
 
-// What a sheet is worth for these pieces.
+/// What a sheet is worth for these pieces.
 #[tactic(auto, using(crate::proofs::Says::whole_worth))]
 pub fn sheet_worth(sheet: Sheet, pieces: &Pieces) -> u32
     ensures { WorthIs sheet.blade (pieces_of pieces.now) sheet.wide sheet.high result }
@@ -39,7 +39,7 @@ pub fn sheet_worth(sheet: Sheet, pieces: &Pieces) -> u32
     best_worths(sheet, pieces).whole()
 }
 
-// What each part of a sheet is worth for these pieces: the worth of a way that can be sawn, and no way whatever is worth more.
+/// What each part of a sheet is worth for these pieces: the worth of a way that can be sawn, and no way whatever is worth more.
 #[tactic(auto, using(crate::proofs::Says::worths_are))]
 pub fn best_worths(sheet: Sheet, pieces: &Pieces) -> Values
     ensures sheet { result.sheet ≡ sheet }
@@ -48,7 +48,7 @@ pub fn best_worths(sheet: Sheet, pieces: &Pieces) -> Values
     values_of(sheet, pieces)
 }
 
-// The same, whatever it is that a part is worth as it lies.
+/// The same, whatever it is that a part is worth as it lies.
 pub fn values_of<U: Uncut>(sheet: Sheet, uncut: &U) -> Values
     ensures sheet { result.sheet ≡ sheet }
     ensures values { ValuesAre (U.reckoned uncut.now) (U.pieces uncut.now) result }
@@ -70,7 +70,7 @@ pub fn values_of<U: Uncut>(sheet: Sheet, uncut: &U) -> Values
 }
 
 impl Values {
-    // What a part is worth, if it is no wider and no higher than the sheet. An empty one is worth nothing.
+    /// What a part is worth, if it is no wider and no higher than the sheet. An empty one is worth nothing.
     #[tactic(auto, using(crate::proofs::Says::value_there, crate::proofs::Says::value_beyond, crate::proofs::Cells::cell_of_none))]
     pub fn worth(&self, part: Part) -> Option<u32>
         ensures { result ≡ value_at self.now part.wide part.high }
@@ -84,7 +84,7 @@ impl Values {
         }
     }
 
-    // What the whole sheet is worth.
+    /// What the whole sheet is worth.
     #[tactic(auto, using(crate::proofs::Says::value_there))]
     pub fn whole(&self) -> u32
         ensures { value_at self.now self.now.sheet.wide self.now.sheet.high ≡ Some result }

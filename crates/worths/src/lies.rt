@@ -6,7 +6,7 @@ use crate::pieces::best_piece;
 use crate::uncut::Uncut;
 use ways::{Part, Piece, Pieces};
 
-// Beside what a part is worth as it lies, what it is.
+/// Beside what a part is worth as it lies, what it is.
 pub trait Lying: Uncut {
     // The number of the piece that a part is as it lies, or none where it is scrap.
     fn lies(&self, part: Part) -> Option<u16>

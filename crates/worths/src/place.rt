@@ -4,8 +4,8 @@ ghost use Rattle.worths.specs.Table.{place_of, HasPlace};
 
 use ways::Part;
 
-// The longest side that a sheet may have, and so how many heights the table has for each width.
-const LONGEST: usize = 60;
+// The longest side of a sheet: so many heights the table has for each width.
+pub(crate) const LONGEST: usize = ways::LONGEST as usize;
 
 // A part that has a number there: it isn't empty, and no side is above 60.
 #[derive(Clone, Copy)]

@@ -6,7 +6,7 @@ use Rattle.std.proofs.lemmas.Bool.Decides.{nat_tests}
 use Rattle.ways.specs.Adding.{Adds}
 use Rattle.ways.specs.Input.{pieces_ok}
 use Rattle.ways.specs.Parts.{sawn}
-use Rattle.ways.specs.Sheet.{Way, scrap, take, piece_fits, can}
+use Rattle.ways.specs.Sheet.{Way, take, piece_fits, can}
 use Rattle.ways.specs.declared.input.Piece.{Piece}
 use Rattle.ways.specs.declared.parts.Orientation.{Orientation}
 use Rattle.ways.specs.declared.parts.Orientation.TheVariants.{Upright, Level}
@@ -55,10 +55,6 @@ one_of_it j = rw (eq-eqb j j refl) refl
 none_of_another : (k j : ℕ) → (j ≡ k → ⊥) → count_of k (take j) ≡ 0
 unfolding count_of
 none_of_another k j ne = rw (ne_eqb j k ne) refl
-
-pub added_none : (a : Way) → a ≡ scrap → (cs : List ℕ) → Added a cs cs
-unfolding count_of
-added_none a is cs k = rw is (omega arith)
 
 module _ (a : Way) (j : ℕ) (is : a ≡ take j) (cs : List ℕ) where
   pub take_place : RoomFor a cs → j < length cs

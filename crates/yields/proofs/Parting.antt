@@ -1,23 +1,21 @@
 -- The areas of a part, from those of its parts. Assumes nothing.
-use Rattle.std.proofs.Common.{◌≡◌, ℕ, ◌+◌, ◌-◌, ◌*◌, ◌≤◌, true, ◌&&◌, List, Some, sym, refl, ◌∙◌, add-mul, mul-le-mul, mul-add, arith}
-use Rattle.std.proofs.lemmas.Bool.{and_parts}
+use Rattle.std.proofs.Common.{◌≡◌, ℕ, ◌+◌, ◌-◌, ◌*◌, true, List, Some, refl, add-mul, mul-add, arith}
 use Rattle.theorems.specs.Areas.{area_of}
 use Rattle.theorems.proofs.Filled.{fits_area}
 use Rattle.ways.specs.Nodes.{node_at, way_at}
-use Rattle.ways.specs.Parts.{side_of, with_side, sawn}
-use Rattle.ways.specs.Sheet.{Way, scrap, take, cut_ok, can}
+use Rattle.ways.specs.Parts.{side_of, with_side, sawn, CutsAt}
+use Rattle.ways.specs.Sheet.{Way, cut_ok, can}
 use Rattle.ways.specs.declared.input.Piece.{Piece}
 use Rattle.ways.specs.declared.nodes.Cut.{Cut}
-use Rattle.ways.specs.declared.nodes.Node.{Node}
 use Rattle.ways.specs.declared.nodes.Node.TheVariants.{Saw}
 use Rattle.ways.specs.declared.parts.Orientation.{Orientation}
 use Rattle.ways.specs.declared.parts.Orientation.TheVariants.{Upright, Level}
 use Rattle.ways.specs.declared.parts.Part.{Part}
-use Rattle.ways.proofs.Cuts.{Cut as CutOk, cut_ok_parts, can_sawn, Smaller, smaller}
+use Rattle.ways.proofs.Cuts.{Cut as CutOk, cut_ok_parts, cut_ok_from, sawn_parts}
 use Rattle.yields.specs.Squares.{blade_area, scrap_area, AreasAre}
-use Rattle.yields.specs.Walks.{OneSheet, Sawable, WithCut}
+use Rattle.yields.specs.Walks.{Sound, Sawable, WithCut}
 use Rattle.yields.specs.declared.squares.Areas.{Areas}
-use Rattle.yields.proofs.Reading.{Sawn, says_saw}
+use Rattle.yields.proofs.Reading.{reading, says_saw}
 
 -- what is beyond the blade, where a part is sawn through at x
 abbrev pub beyond : (blade : ℕ) → Orientation → Part → (x : ℕ) → Part
@@ -51,59 +49,38 @@ areas_sawn blade ps Upright p x a b f s r ok first second cut =
 areas_sawn blade ps Level p y a b f s r ok first second cut =
     record { to_pieces = omega arith; to_blade = omega arith; to_scrap = omega arith; together = omega (arith, all_sawn blade Level p y ok) }
 
-module _ (blade : ℕ) (ps : List Piece) (p : Part) where
-  pub areas_small : (a : Way) (r : Areas) → p.wide ≤ 60 → p.high ≤ 60 → AreasAre blade ps p.wide p.high a r → OneSheet r
-  areas_small a r ew eh is = let all : p.wide * p.high ≤ 60 * 60 = mul-le-mul ew eh in omega (arith, is.together)
+-- r are the areas of a part, sawn as node i says
+abbrev pub AreasFrom : (blade : ℕ) → List ℕ → (i : ℕ) → Part → Areas → Type 0
+AreasFrom blade xs i p r = (ps : List Piece) (l : ℕ) → Sawable blade ps xs l i p → AreasAre blade ps p.wide p.high (way_at xs l i) r
 
-  pub areas_scrap : (a : Way) (s : ℕ) → a ≡ scrap → s ≡ all_of p → AreasAre blade ps p.wide p.high a (record { pieces = 0; blade = 0; scrap = s })
-  unfolding area_of blade_area scrap_area
-  areas_scrap a s is e = rw is (record { to_pieces = refl; to_blade = refl; to_scrap = e; together = omega arith })
+-- a part that can be sawn as a cut says, the blade may saw through there
+pub may_saw :
+    (blade : ℕ) (ps : List Piece) (xs : List ℕ) (l i : ℕ) (p : Part) (c : Cut ℕ) → node_at xs i ≡ Some (Saw c) → Sound xs l i →
+    can blade ps p.wide p.high (way_at xs l i) ≡ true → cut_ok blade (side_of c.orientation p.wide p.high) c.at ≡ true
+may_saw blade ps xs l i p c is sound able =
+    cut_ok_from blade _ c.at (sawn_parts blade ps c.orientation p c.at _ _ (rw (says_saw xs i c is l sound).says at able)).0
 
-  pub areas_take :
-      (a : Way) (k s : ℕ) → a ≡ take k → can blade ps p.wide p.high a ≡ true → s ≡ all_of p → AreasAre blade ps p.wide p.high a (record { pieces = s; blade = 0; scrap = 0 })
-  unfolding can area_of blade_area scrap_area
-  areas_take a k s is able e =
-      rw is (record { to_pieces = e ∙ sym (fits_area ps k p.wide p.high (rw is at able)); to_blade = refl; to_scrap = refl; together = omega arith })
+-- of whatever node, for `grind`
+pub ruleset parting = (reading, may_saw, fits_area)
 
--- node i saws its part into two that can be sawn as its nodes say
-pub record Parted (blade : ℕ) (ps : List Piece) (xs : List ℕ) (levels i : ℕ) (p : Part) (c : Cut ℕ) (near far : Part) : Type 0 where
-  pub sawn : Sawn xs c levels i
-  pub cut : CutOk blade (side_of c.orientation p.wide p.high) c.at
-  pub is_near : near ≡ with_side c.orientation p c.at
-  pub is_far : far ≡ beyond blade c.orientation p c.at
-  pub first : Sawable blade ps xs sawn.deep c.first near
-  pub second : Sawable blade ps xs sawn.deep c.second far
-  pub first_smaller : Smaller p near
-  pub second_smaller : Smaller p far
+-- node i is a cut of its part, and these are both its parts
+pub record Parted (blade : ℕ) (xs : List ℕ) (i : ℕ) (p : Part) (c : Cut ℕ) (parts : Cut Part) : Type 0 where
+  pub says : node_at xs i ≡ Some (Saw c)
+  pub cuts : CutsAt blade p c.orientation c.at parts
 
-module _ (blade : ℕ) (ps : List Piece) (xs : List ℕ) (l i : ℕ) (p : Part) where
-  pub parted :
-      Sawable blade ps xs l i p → (node : Node ℕ) → Some node ≡ node_at xs i → (c : Cut ℕ) → node ≡ Saw c →
-      (near far : Part) → near ≡ with_side c.orientation p c.at → far ≡ beyond blade c.orientation p c.at →
-      Parted blade ps xs l i p c near far
-  parted able node read c is near far is_near is_far =
-      let s = says_saw xs i node read c l is able.0 in
-      let first = way_at xs s.deep c.first in
-      let second = way_at xs s.deep c.second in
-      let told = rw (s.says, can_sawn blade ps c.orientation p c.at first second, ← is_near, ← is_far) at able.1 in
-      let made = and_parts (cut_ok blade (side_of c.orientation p.wide p.high) c.at) (can blade ps near.wide near.high first && can blade ps far.wide far.high second) told in
-      let both = and_parts (can blade ps near.wide near.high first) (can blade ps far.wide far.high second) made.1 in
-      let cut = cut_ok_parts blade _ c.at made.0 in
-      record {
-        sawn = s;
-        cut = cut;
-        is_near = is_near;
-        is_far = is_far;
-        first = (s.first, both.0);
-        second = (s.second, both.1);
-        first_smaller = smaller c.orientation p near c.at is_near cut.proper;
-        second_smaller = smaller c.orientation p far _ is_far (omega arith);
-      }
+module _ {blade : ℕ} {xs : List ℕ} {i : ℕ} {p : Part} {c : Cut ℕ} {parts : Cut Part} (so : Parted blade xs i p c parts) where
+  -- they can be sawn as the nodes say that it names
+  pub both_sawable :
+      (ps : List Piece) (l : ℕ) (able : Sawable blade ps xs l i p) →
+      let s = says_saw xs i c so.says l able.0 in Sawable blade ps xs s.deep c.first parts.first × Sawable blade ps xs s.deep c.second parts.second
+  both_sawable ps l able =
+      let s = says_saw xs i c so.says l able.0 in
+      let q = sawn_parts blade ps c.orientation p c.at _ _ (rw s.says at able.1) in ((s.first, rw so.cuts.first q.1), (s.second, rw so.cuts.second q.2))
 
   pub areas_saw :
-      (c : Cut ℕ) (near far : Part) (so : Parted blade ps xs l i p c near far) (sawdust : Part) → sawdust ≡ with_side c.orientation p blade →
-      (cut : ℕ) → cut ≡ all_of sawdust → (f s r : Areas) →
-      AreasAre blade ps near.wide near.high (way_at xs so.sawn.deep c.first) f → AreasAre blade ps far.wide far.high (way_at xs so.sawn.deep c.second) s →
-      WithCut cut f s r → AreasAre blade ps p.wide p.high (way_at xs l i) r
-  areas_saw c near far so sawdust is_sawdust cut is_cut f s r first second with_cut =
-      rw so.sawn.says (areas_sawn blade ps c.orientation p c.at _ _ f s r so.cut (rw so.is_near at first) (rw so.is_far at second) (rw (is_cut, is_sawdust) at with_cut))
+      (saw : ℕ) → saw ≡ all_of (with_side c.orientation p blade) → (f s r : Areas) →
+      AreasFrom blade xs c.first parts.first f → AreasFrom blade xs c.second parts.second s → WithCut saw f s r → AreasFrom blade xs i p r
+  areas_saw saw e f s r first second with_cut ps l able =
+      let both = both_sawable ps l able in
+      rw (says_saw xs i c so.says l able.0).says
+      (areas_sawn blade ps c.orientation p c.at _ _ f s r (cut_ok_parts _ _ _ so.cuts.allowed) (rw so.cuts.first at (first ps _ both.0)) (rw so.cuts.second at (second ps _ both.1)) (rw e at with_cut))

@@ -1,5 +1,5 @@
 -- What nodes say, by the node that is read first. Assumes nothing.
-use Rattle.std.proofs.Common.{◌≡◌, ℕ, zero, suc, ◌/◌, List, length, Some, None, sym, refl}
+use Rattle.std.proofs.Common.{◌≡◌, ℕ, false, zero, suc, ◌/◌, List, length, Some, None, sym, refl}
 use Rattle.std.proofs.lemmas.Bool.{false≢true, and_parts}
 use Rattle.std.proofs.lemmas.Option.{cond_some}
 use Rattle.ways.specs.Judged.{both_parts, sound, worth_from, judged}
@@ -8,9 +8,8 @@ use Rattle.ways.specs.Parts.{sawn}
 use Rattle.ways.specs.Sheet.{scrap, take, can, worth_of}
 use Rattle.ways.specs.declared.input.Piece.{Piece}
 use Rattle.ways.specs.declared.nodes.Cut.{Cut}
-use Rattle.ways.specs.declared.nodes.Node.{Node}
 use Rattle.ways.specs.declared.nodes.Node.TheVariants.{Scrap, Take, Saw}
-use Rattle.ways.proofs.Named.{BothLater, ok_there, ok_saw}
+use Rattle.ways.proofs.Named.{BothLater, ok_saw}
 use Rattle.yields.specs.Answered.{way_of}
 use Rattle.yields.specs.Walks.{Sound, Sawable}
 
@@ -26,35 +25,37 @@ module _ (xs : List ℕ) where
   abbrev n : ℕ
   n = length xs / 4
 
-  pub sound_there : (l i : ℕ) → Sound xs l i → None ≡ node_at xs i → ⊥
-  unfolding sound
-  sound_there zero i e = absurd (false≢true e)
-  sound_there (suc l) i e = ok_there xs n i (and_parts (node_ok xs n i) (both_parts (sound xs n l) (node_at xs i)) e).0
+  pub sound_missing : (l i : ℕ) → node_at xs i ≡ None → sound xs (length xs / 4) l i ≡ false
+  unfolding sound node_ok
+  sound_missing zero i e = refl
+  sound_missing (suc l) i e = rw e refl
 
-  module _ (i : ℕ) (node : Node ℕ) (read : Some node ≡ node_at xs i) where
-    pub says_scrap : (l : ℕ) → node ≡ Scrap → way_at xs l i ≡ scrap
-    unfolding way_at way_from
-    says_scrap zero is = refl
-    says_scrap (suc l) is = rw (← read, is) refl
+  pub way_scrap : (l i : ℕ) → node_at xs i ≡ Some Scrap → way_at xs l i ≡ scrap
+  unfolding way_at way_from
+  way_scrap zero i e = refl
+  way_scrap (suc l) i e = rw e refl
 
-    pub says_take : (k l : ℕ) → node ≡ Take k → Sound xs l i → way_at xs l i ≡ take k
-    unfolding sound way_at way_from
-    says_take k zero is e = absurd (false≢true e)
-    says_take k (suc l) is e = rw (← read, is) refl
+  pub way_take : (l i k : ℕ) → node_at xs i ≡ Some (Take k) → Sound xs l i → way_at xs l i ≡ take k
+  unfolding sound way_at way_from
+  way_take zero i k e s = absurd (false≢true s)
+  way_take (suc l) i k e s = rw e refl
 
-    pub says_saw : (c : Cut ℕ) (l : ℕ) → node ≡ Saw c → Sound xs l i → Sawn xs c l i
-    unfolding sound both_parts way_at way_from
-    says_saw c zero is e = absurd (false≢true e)
-    says_saw c (suc l) is e =
-        let named = and_parts (node_ok xs n i) (both_parts (sound xs n l) (node_at xs i)) e in
-        let parts = and_parts (sound xs n l c.first) (sound xs n l c.second) (rw (← read, is) at named.1) in
-        record {
-          deep = l;
-          first = parts.0;
-          second = parts.1;
-          says = rw (← read, is) refl;
-          later = ok_saw xs n i named.0 node read c is;
-        }
+  pub says_saw : (i : ℕ) (c : Cut ℕ) → node_at xs i ≡ Some (Saw c) → (l : ℕ) → Sound xs l i → Sawn xs c l i
+  unfolding sound both_parts way_at way_from
+  says_saw i c is zero e = absurd (false≢true e)
+  says_saw i c is (suc l) e =
+      let named = and_parts (node_ok xs n i) (both_parts (sound xs n l) (node_at xs i)) e in
+      let parts = and_parts (sound xs n l c.first) (sound xs n l c.second) (rw is at named.1) in
+      record {
+        deep = l;
+        first = parts.0;
+        second = parts.1;
+        says = rw is refl;
+        later = ok_saw xs n i named.0 (Saw c) (sym is) c refl;
+      }
+
+-- of a node that is no cut, for `grind`
+pub ruleset reading = (sound_missing, way_scrap, way_take)
 
 -- what is judged a way that can be sawn is one
 pub judged_some :

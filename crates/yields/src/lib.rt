@@ -16,8 +16,8 @@ pub use squares::Areas;
 use squares::part_areas;
 use ways::{MOST_SORTS, Node, Pieces, Sheet, judge};
 
-// How many of each piece a way yields, by the piece's number and then noughts, if the nodes are a way that can be sawn. It takes what
-// `judge` takes, and so does `areas`: a struct of the three would only be made for the call.
+/// How many of each piece a way yields, by the piece's number and then noughts, if the nodes are a way that can be sawn. It takes what
+/// `judge` takes, and so does `areas`: a struct of the three would only be made for the call.
 pub fn piece_counts(sheet: Sheet, pieces: &Pieces, numbers: &[u16]) -> Option<[u32; MOST_SORTS]>
     ensures { Answered (judged sheet.blade (pieces_of pieces.now) sheet.wide sheet.high numbers.now) (CountsAre (pieces_of pieces.now) (way_of numbers.now)) result }
 {
@@ -29,6 +29,7 @@ pub fn piece_counts(sheet: Sheet, pieces: &Pieces, numbers: &[u16]) -> Option<[u
 
 // Adds what the way yields that the nodes say from node i on. Only i changes from node to node; a struct of both would be made anew
 // for each.
+#[tactic(auto, using(crate::proofs::Reading::reading), unfolding(crate::specs::Counts::count_of))]
 fn add_pieces(numbers: &[u16], i: usize, counts: &mut [u32])
     requires { (l : ℕ) × Sound numbers.now l i × RoomFor (way_at numbers.now l i) counts.old }
     ensures { (l : ℕ) → Sound numbers.now l i → (k : ℕ) → slice_index counts.new k ≡ slice_index counts.old k + count_of k (way_at numbers.now l i) }
@@ -46,11 +47,11 @@ fn add_pieces(numbers: &[u16], i: usize, counts: &mut [u32])
     }
 }
 
-// How much of the sheet a way makes into pieces, blade and scrap, if the nodes are a way that can be sawn.
+/// How much of the sheet a way makes into pieces, blade and scrap, if the nodes are a way that can be sawn.
 #[tactic(auto, using(crate::proofs::Reading::judged_some))]
 pub fn areas(sheet: Sheet, pieces: &Pieces, numbers: &[u16]) -> Option<Areas>
     ensures { Answered (judged sheet.blade (pieces_of pieces.now) sheet.wide sheet.high numbers.now) (AreasAre sheet.blade (pieces_of pieces.now) sheet.wide sheet.high (way_of numbers.now)) result }
 {
     judge(sheet, pieces, numbers)?;
-    Some(part_areas(numbers, 0, sheet.blade(), sheet.whole()))
+    Some(part_areas(numbers, 0, sheet, sheet.whole()))
 }

@@ -5,9 +5,9 @@ ghost use Rattle.ways.specs.declared.input.Piece.{Piece};
 ghost use Rattle.yields.specs.Squares.{AreasAre};
 ghost use Rattle.yields.specs.Walks.{OneSheet, Sawable, WithCut};
 
-use ways::{Node, Part};
+use ways::{Node, Part, Sheet};
 
-// How many squares of a sheet became pieces, went into the blade (sawdust) and are scrap (waste).
+/// How many squares of a sheet became pieces, went into the blade (sawdust) and are scrap (waste).
 #[derive(Clone, Copy, Debug, Default, PartialEq, Eq)]
 pub struct Areas {
     pub pieces: u32,
@@ -17,10 +17,12 @@ pub struct Areas {
 
 // The areas of a part that can be sawn as node i says. A piece is just as wide and as high as its part. How large the part is, is
 // asked here and not in `Part`, whose users may ask of any size.
-pub(crate) fn part_areas(numbers: &[u16], i: usize, blade: usize, part: Part) -> Areas
-    requires small { (blade ≤ 60) × ((part.wide ≤ 60) × (part.high ≤ 60)) }
-    requires way { (ps : List Piece) × (l : ℕ) × Sawable blade ps numbers.now l i part }
-    ensures { (ps : List Piece) (l : ℕ) → Sawable blade ps numbers.now l i part → AreasAre blade ps part.wide part.high (way_at numbers.now l i) result }
+#[tactic(auto, using(crate::proofs::Parting::parting), unfolding(crate::specs::Squares::blade_area, crate::specs::Squares::scrap_area, theorems::specs::Areas::area_of, ways::specs::Sheet::can))]
+pub(crate) fn part_areas(numbers: &[u16], i: usize, sheet: Sheet, part: Part) -> Areas
+    requires small { (part.wide ≤ 60) × (part.high ≤ 60) }
+    requires way { (ps : List Piece) × (l : ℕ) × Sawable sheet.blade ps numbers.now l i part }
+    ensures areas { (ps : List Piece) (l : ℕ) → Sawable sheet.blade ps numbers.now l i part → AreasAre sheet.blade ps part.wide part.high (way_at numbers.now l i) result }
+    ensures small { OneSheet result }
 {
     let Some(node) = Node::read(numbers, i) else {
         unreachable()
@@ -35,13 +37,13 @@ pub(crate) fn part_areas(numbers: &[u16], i: usize, blade: usize, part: Part) ->
             ..Areas::default()
         },
         Node::Saw(cut) => {
-            let at = cut.at as usize;
-            let rest = part.side(cut.orientation) - (at + blade);
-            let near = part.with_side(cut.orientation, at);
-            let far = part.with_side(cut.orientation, rest);
+            let blade = sheet.blade();
+            let Some(parts) = part.sawn(cut.orientation, cut.at, blade) else {
+                unreachable()
+            };
             let sawdust = part.with_side(cut.orientation, blade);
-            let first = part_areas(numbers, cut.first as usize, blade, near);
-            let second = part_areas(numbers, cut.second as usize, blade, far);
+            let first = part_areas(numbers, cut.first as usize, sheet, parts.first);
+            let second = part_areas(numbers, cut.second as usize, sheet, parts.second);
             with_cut(squares(sawdust), first, second)
         }
     }

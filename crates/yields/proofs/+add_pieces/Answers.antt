@@ -1,32 +1,23 @@
 use Rattle.std.proofs.Common.{ℕ, ◌<◌, length, arith}
 use Rattle.yields.specs.Walks.{Sound}
-use Rattle.yields.proofs.Counting.{room_first, room_second, added_both, added_none, added_one, take_place}
-use Rattle.yields.proofs.Reading.{Sawn, sound_there, says_scrap, says_take, says_saw}
+use Rattle.yields.proofs.Counting.{room_first, room_second, added_both, added_one, take_place}
+use Rattle.yields.proofs.Reading.{Sawn, way_take, says_saw}
 use Rattle.yields.proofs.+add_pieces.Goals as goal
 use Rattle.yields.proofs.+add_pieces.Goals.{In-Take, In-Saw}
 
-pub unreachable-requires : goal.unreachable-requires
-unreachable-requires t c = sound_there c.args.numbers.now c.requires.0 c.args.i c.requires.1 c.in_default.ensures
-
-pub returns-in-Scrap : goal.returns-in-Scrap
-returns-in-Scrap t c = λ l sound. added_none _ (says_scrap _ _ _ c.in-Some.ensures l c.in-Scrap.is) c.args.counts.now
-
 -- there is a place for the piece
 placed : (t : ℕ) (c : In-Take t) → c.in-Take.piece < length c.args.counts.now
-placed t c = take_place _ _ (says_take _ _ _ c.in-Some.ensures _ _ c.in-Take.is c.requires.1) _ c.requires.2
+placed t c = take_place _ _ (way_take _ _ _ _ (cc) c.requires.1) _ c.requires.2
 
 pub bounds-counts-piece : goal.bounds-counts-piece
 bounds-counts-piece t c = placed t (goal.at.bounds-counts-piece t c).In-Take
 
-pub bounds-counts-piece-in-Take : goal.bounds-counts-piece-in-Take
-bounds-counts-piece-in-Take t c = placed t (goal.at.bounds-counts-piece-in-Take t c).In-Take
-
 pub returns-in-Take : goal.returns-in-Take
-returns-in-Take t c = λ l sound. added_one _ _ (says_take _ _ _ c.in-Some.ensures _ l c.in-Take.is sound) _ (placed t (goal.at.returns-in-Take t c).In-Take)
+returns-in-Take t c = λ l sound. added_one _ _ (way_take _ _ _ _ (cc) sound) _ (placed t (goal.at.returns-in-Take t c).In-Take)
 
 -- a part that is sawn, read so deep
 sawn_here : (t : ℕ) (c : In-Saw t) (l : ℕ) → Sound c.args.numbers.now l c.args.i → Sawn c.args.numbers.now c.in-Saw.cut l c.args.i
-sawn_here t c l sound = says_saw c.args.numbers.now c.args.i _ c.in-Some.ensures _ l c.in-Saw.is sound
+sawn_here t c l sound = says_saw _ _ _ (cc) l sound
 
 pub add_pieces-requires : goal.add_pieces-requires
 add_pieces-requires t c =

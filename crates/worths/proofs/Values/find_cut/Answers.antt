@@ -13,5 +13,5 @@ returns-in_err-at c =
 pub returns : goal.returns
 returns c =
     let place = c.in_ok-place.place in
-    rw (c.with_side.ensures, c.with_side-2.ensures, c.side.ensures, c.blade.ensures)
-    (cut_found c.args.self.now c.args.orientation c.args.part place.part c.in_ok-place.ensures place.ok _ c.in_ok-worth.ensures _ c.in_ok-at.ensures)
+    cut_found c.args.self.now c.args.orientation c.args.part place.part c.in_ok-place.ensures place.ok _ c.in_ok-worth.ensures _ c.in_ok-at.ensures _
+    (rw c.blade.ensures at c.sawn.ensures)

@@ -38,13 +38,13 @@ returns g c =
     let p = c.args.part in let cut = c.in-Some-or_else.cut in
     let any = some_found t p c.find_cut-upright.result c.or_else.result c.find_cut-upright.ensures _ c.or_else.ensures (λ e. search rules) cut c.in-Some-or_else.is in
     let found = any.1 in
-    let ok = cut_ok_parts t.sheet.blade (side_of any.0 p.wide p.high) cut.at found.allowed in
-    let near = within_sheet t p c.requires.narrow c.requires.low any.0 cut.first cut.at found.first ok.proper in
-    let far = within_sheet t p c.requires.narrow c.requires.low any.0 cut.second _ found.second (omega (arith, ok.some, ok.fits)) in
+    let ok = cut_ok_parts t.sheet.blade (side_of any.0 p.wide p.high) cut.at found.cuts.allowed in
+    let near = within_sheet t p c.requires.narrow c.requires.low any.0 cut.first cut.at found.cuts.first ok.proper in
+    let far = within_sheet t p c.requires.narrow c.requires.low any.0 cut.second _ found.cuts.second (omega (arith, ok.some, ok.fits)) in
     record {
       first_ready = record { right = c.requires.right; narrow = near.0; low = near.1 };
       second_ready = record { right = c.requires.right; narrow = far.0; low = far.1 };
-      room = spare_sawn t.sheet.blade any.0 p cut.first cut.second cut.at ok found.first found.second;
+      room = spare_sawn t.sheet.blade any.0 p cut.first cut.second cut.at ok found.cuts.first found.cuts.second;
       joins =
           good_sawn (g.U.Uncut.reckoned u) _ _ t (g.met.U.Uncut.adds u t.sheet.blade) c.requires.right p c.requires.narrow c.requires.low
           (λ e. c.if-worth-uncut_worth.false (omega (arith, said.2))) any.0 cut found;
