@@ -17,7 +17,7 @@ use ways::{Pieces, Refusal, Sheet};
 use worths::{Lying, values_of};
 
 /// How many nodes a way has, and what it is worth.
-#[derive(Clone, Copy)]
+#[derive(Clone, Copy, Debug, PartialEq, Eq)]
 pub struct Plan {
     pub nodes: usize,
     pub worth: u32,

@@ -94,10 +94,10 @@ fn accepted(job: &Job, numbers: &[u32]) -> Result<(Sheet, Pieces), Refusal>
     requires { numbers.now ≡ numbers_of job.now.pieces.items }
     ensures { IfOk result (λ s. (sheet_fault s.0.wide s.0.high s.0.blade ≡ None) × (pieces_fault numbers.now ≡ None) × (pieces_of s.1 ≡ pieces_named job.now.pieces.items)) }
 {
-    let sheet = match job.sheet {
-        Some(line) => Some(Sheet::new(line.wide, line.high, line.blade)?),
-        None => None,
-    };
+    let sheet = job
+        .sheet
+        .map(|line| Sheet::new(line.wide, line.high, line.blade))
+        .transpose()?;
     let pieces = Pieces::try_from(numbers)?;
     match (job.unread, sheet) {
         (Some(refusal), _) => Err(refusal),

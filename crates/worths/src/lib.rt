@@ -100,7 +100,8 @@ impl Values {
         self.cells[place.index()]
     }
 
-    // What the part is worth to which a cut shortens one side.
+    // What the part is worth to which a cut shortens one side. The orientation and the place go through three functions side by side;
+    // a struct of both would be taken apart again in each.
     fn part(&self, orientation: Orientation, place: Place, side: usize) -> u32
         requires { (1 ≤ side) × (side ≤ 60) }
         ensures { result ≡ part_of orientation self.now.cells place.part side }
