@@ -36,7 +36,7 @@ pub fn saw(wide: u64, high: u64, blade: u64, pieces: &[u32], room: &mut [u16]) -
     }
 }
 
-// The same, with the first refusal that applies as it is.
+// The same, with the first refusal that applies as it is. It takes the entry's numbers as they come, and once.
 fn saw_checked(
     wide: u64,
     high: u64,

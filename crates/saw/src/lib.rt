@@ -35,7 +35,8 @@ pub fn saw(wide: u64, high: u64, blade: u64, pieces: &[u32], room: &mut [u16]) -
     }
 }
 
-// The sheet and the pieces, or the first refusal that applies.
+// The sheet and the pieces, or the first refusal that applies. It takes the entry's numbers as they come, and once: a struct of them
+// would be made for this call alone.
 #[tactic(auto, using(ways::proofs::Taken::taken), unfolding(ways::specs::Refusals::room_fault))]
 fn accept(
     wide: u64,

@@ -3,7 +3,8 @@ use Rattle.std.proofs.Common.{◌≡◌, ℕ, zero, suc, ◌+◌, ◌-◌, ◌�
 use Rattle.std.proofs.lemmas.Bool.{false≢true}
 use Rattle.ways.specs.Sheet.{Way, scrap, take, upright, level, piece_fits, worth_at, can, worth_of, Best}
 use Rattle.ways.specs.declared.input.Piece.{Piece}
-use Rattle.ways.proofs.Cuts.{cut_ok_parts, cut_ok_from, upright_parts, upright_from, level_parts, level_from}
+use Rattle.ways.specs.declared.parts.Orientation.TheVariants.{Upright, Level}
+use Rattle.ways.proofs.Cuts.{cut_ok_parts, cut_ok_from, sawn_parts, sawn_from}
 use Rattle.theorems.specs.Statements.{AsLong, LargerSheet, LargerByTheBlade, MoreSorts}
 
 module _ (blade : ℕ) (ps : List Piece) where
@@ -11,18 +12,18 @@ module _ (blade : ℕ) (ps : List Piece) where
   abbrev Got : (w h v : ℕ) → Type 0
   Got w h v = (a : Way) × (can blade ps w h a ≡ true) × (worth_of ps a ≡ v)
 
-  -- the smaller sheet is sawn off, and the rest is scrap
+  -- the smaller sheet is sawn off, and the rest is scrap: each side by itself, as one lemma for both would need three about sides
   wider : (w h v n : ℕ) → AsLong blade w v → Got w h n → Got v h n
   unfolding can worth_of
   wider w h v n (inl e) got = rw e got
   wider w h v n (inr e) got =
-      (upright w got.0 scrap, upright_from blade ps v h w got.0 scrap (cut_ok_parts blade v w e) got.1 refl, omega (arith, got.2))
+      (upright w got.0 scrap, sawn_from blade ps Upright (record { wide = v; high = h }) w got.0 scrap (cut_ok_parts blade v w e) got.1 refl, omega (arith, got.2))
 
   higher : (w h g n : ℕ) → AsLong blade h g → Got w h n → Got w g n
   unfolding can worth_of
   higher w h g n (inl e) got = rw e got
   higher w h g n (inr e) got =
-      (level h got.0 scrap, level_from blade ps w g h got.0 scrap (cut_ok_parts blade g h e) got.1 refl, omega (arith, got.2))
+      (level h got.0 scrap, sawn_from blade ps Level (record { wide = w; high = g }) h got.0 scrap (cut_ok_parts blade g h e) got.1 refl, omega (arith, got.2))
 
 pub larger_sheet : LargerSheet
 unfolding Best
@@ -44,20 +45,21 @@ more_fits [] qs k w h e = absurd (false≢true e)
 more_fits (p ∷ ps) qs zero w h e = (e, refl)
 more_fits (p ∷ ps) qs (suc k) w h e = more_fits ps qs k w h e
 
+-- a case for each constructor of a way
 more_can : (blade : ℕ) (ps qs : List Piece) (w h : ℕ) (a : Way) → can blade ps w h a ≡ true → (can blade (ps ++ qs) w h a ≡ true) × (worth_of (ps ++ qs) a ≡ worth_of ps a)
 unfolding can worth_of
 more_can blade ps qs w h scrap e = (refl, refl)
 more_can blade ps qs w h (take k) e = more_fits ps qs k w h e
 more_can blade ps qs w h (upright x a b) e =
-    let p = upright_parts blade ps w h x a b e in
+    let p = sawn_parts blade ps Upright (record { wide = w; high = h }) x a b e in
     let l = more_can blade ps qs x h a p.1 in
     let r = more_can blade ps qs (w - (x + blade)) h b p.2 in
-    (upright_from blade (ps ++ qs) w h x a b p.0 l.0 r.0, ap₂ ◌+◌ l.1 r.1)
+    (sawn_from blade (ps ++ qs) Upright (record { wide = w; high = h }) x a b p.0 l.0 r.0, ap₂ ◌+◌ l.1 r.1)
 more_can blade ps qs w h (level y a b) e =
-    let p = level_parts blade ps w h y a b e in
+    let p = sawn_parts blade ps Level (record { wide = w; high = h }) y a b e in
     let l = more_can blade ps qs w y a p.1 in
     let r = more_can blade ps qs w (h - (y + blade)) b p.2 in
-    (level_from blade (ps ++ qs) w h y a b p.0 l.0 r.0, ap₂ ◌+◌ l.1 r.1)
+    (sawn_from blade (ps ++ qs) Level (record { wide = w; high = h }) y a b p.0 l.0 r.0, ap₂ ◌+◌ l.1 r.1)
 
 pub more_sorts : MoreSorts
 unfolding Best

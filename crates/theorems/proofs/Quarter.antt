@@ -18,6 +18,7 @@ turned_worth [] k = refl
 turned_worth (p ∷ ps) zero = refl
 turned_worth (p ∷ ps) (suc k) = turned_worth ps k
 
+-- a case for each constructor of a way
 pub turned_same : Turned
 unfolding can worth_of turned_way
 turned_same blade ps w h scrap = (refl, refl)

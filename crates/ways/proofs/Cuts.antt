@@ -5,7 +5,7 @@ use Rattle.std.proofs.lemmas.Bool.Decides.{nat_tests}
 use Rattle.ways.specs.Adding.{Adds}
 use Rattle.ways.specs.Parts.{side_of, with_side, sawn, CutsAt}
 use Rattle.ways.specs.declared.nodes.Cut.{Cut as Sawn}
-use Rattle.ways.specs.Sheet.{Way, upright, level, cut_ok, can, worth_of}
+use Rattle.ways.specs.Sheet.{Way, cut_ok, can, worth_of}
 use Rattle.ways.specs.declared.input.Piece.{Piece}
 use Rattle.ways.specs.declared.parts.Orientation.{Orientation}
 use Rattle.ways.specs.declared.parts.Orientation.TheVariants.{Upright, Level}
@@ -32,24 +32,7 @@ cut_parts blade side x s t e =
 cut_from : (blade side x : ℕ) (s t : Bool) → Cut blade side x → s ≡ true → t ≡ true → (cut_ok blade side x && (s && t)) ≡ true
 cut_from blade side x s t c p q = and_from (cut_ok blade side x) (s && t) (cut_ok_from blade side x c) (and_from s t p q)
 
-module _ (blade : ℕ) (ps : List Piece) (w h x : ℕ) (a b : Way) where
-  pub upright_parts : can blade ps w h (upright x a b) ≡ true → Cut blade w x × (can blade ps x h a ≡ true) × (can blade ps (w - (x + blade)) h b ≡ true)
-  unfolding can
-  upright_parts e = cut_parts blade w x _ _ e
-
-  pub upright_from : Cut blade w x → can blade ps x h a ≡ true → can blade ps (w - (x + blade)) h b ≡ true → can blade ps w h (upright x a b) ≡ true
-  unfolding can
-  upright_from c p q = cut_from blade w x _ _ c p q
-
-  pub level_parts : can blade ps w h (level x a b) ≡ true → Cut blade h x × (can blade ps w x a ≡ true) × (can blade ps w (h - (x + blade)) b ≡ true)
-  unfolding can
-  level_parts e = cut_parts blade h x _ _ e
-
-  pub level_from : Cut blade h x → can blade ps w x a ≡ true → can blade ps w (h - (x + blade)) b ≡ true → can blade ps w h (level x a b) ≡ true
-  unfolding can
-  level_from c p q = cut_from blade h x _ _ c p q
-
--- the same of a cut whichever way
+-- what it takes that a cut can be sawn, whichever way it goes
 pub can_sawn :
     (blade : ℕ) (ps : List Piece) (o : Orientation) (p : Part) (x : ℕ) (a b : Way) →
     let near = with_side o p x in

@@ -7,7 +7,7 @@ use Rattle.ways.specs.declared.input.Piece.{Piece}
 use Rattle.ways.specs.declared.parts.Orientation.{Orientation}
 use Rattle.ways.specs.declared.parts.Orientation.TheVariants.{Upright, Level}
 use Rattle.ways.specs.declared.parts.Part.{Part}
-use Rattle.ways.proofs.Cuts.{Cut, upright_parts, level_parts}
+use Rattle.ways.proofs.Cuts.{Cut, sawn_parts}
 
 -- a part has at least as much room as the two parts of any cut have together
 pub record Splits (blade : ℕ) (room : (wide high : ℕ) → ℕ) : Type 0 where
@@ -22,7 +22,7 @@ pub sawn_splits :
 sawn_splits blade room splits Upright p x c = splits.uprights p.wide p.high x c
 sawn_splits blade room splits Level p y c = splits.levels p.wide p.high y c
 
--- what has room as it lies has room however it is sawn
+-- what has room as it lies has room however it is sawn, by a case for each constructor of a way
 module _ (blade : ℕ) (ps : List Piece) (value : ℕ → ℕ → Way → ℕ) (room : ℕ → ℕ → ℕ) (adds : Adds blade value) (splits : Splits blade room)
     (scraps : (w h : ℕ) → value w h scrap ≤ room w h) (takes : (w h k : ℕ) → piece_fits ps k w h ≡ true → value w h (take k) ≤ room w h) where
   pub within : (w h : ℕ) (a : Way) → can blade ps w h a ≡ true → value w h a ≤ room w h
@@ -30,10 +30,10 @@ module _ (blade : ℕ) (ps : List Piece) (value : ℕ → ℕ → Way → ℕ) (
   within w h scrap e = scraps w h
   within w h (take k) e = takes w h k e
   within w h (upright x a b) e =
-      let p = upright_parts blade ps w h x a b e in
+      let p = sawn_parts blade ps Upright (record { wide = w; high = h }) x a b e in
       omega (arith, adds.uprights w h x a b, within x h a p.1, within (w - (x + blade)) h b p.2, splits.uprights w h x p.0)
   within w h (level y a b) e =
-      let p = level_parts blade ps w h y a b e in
+      let p = sawn_parts blade ps Level (record { wide = w; high = h }) y a b e in
       omega (arith, adds.levels w h y a b, within w y a p.1, within w (h - (y + blade)) b p.2, splits.levels w h y p.0)
 
 -- the squares are split, whatever each is worth

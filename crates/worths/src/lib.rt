@@ -24,7 +24,7 @@ use ways::{Orientation, Part, Pieces, Sheet};
 // How many numbers the table has: one for each width and height.
 const CELLS: usize = LONGEST * LONGEST;
 
-/// What a sheet, and each that is no wider and no higher, is worth: 3,600 numbers by value, with no heap.
+/// What a sheet, and each that is no wider and no higher, is worth: 3,600 numbers by value, since the libraries use no heap.
 #[derive(Drop)]
 pub struct Values {
     sheet: Sheet,

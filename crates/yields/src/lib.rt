@@ -17,7 +17,7 @@ use squares::part_areas;
 use ways::{MOST_SORTS, Node, Pieces, Sheet, judge};
 
 /// How many of each piece a way yields, by the piece's number and then noughts, if the nodes are a way that can be sawn. It takes what
-/// `judge` takes, and so does `areas`: a struct of the three would only be made for the call.
+/// `judge` takes, and so does `areas`: whoever has these three can ask each.
 pub fn piece_counts(sheet: Sheet, pieces: &Pieces, numbers: &[u16]) -> Option<[u32; MOST_SORTS]>
     ensures { Answered (judged sheet.blade (pieces_of pieces.now) sheet.wide sheet.high numbers.now) (CountsAre (pieces_of pieces.now) (way_of numbers.now)) result }
 {
@@ -27,8 +27,8 @@ pub fn piece_counts(sheet: Sheet, pieces: &Pieces, numbers: &[u16]) -> Option<[u
     Some(counts)
 }
 
-// Adds what the way yields that the nodes say from node i on. Only i changes from node to node; a struct of both would be made anew
-// for each.
+// Adds what the way yields that the nodes say from node i on. The numbers stay the same from node to node, and in `part_areas` the
+// sheet too: a struct with this one method, for one or two of its parameters, is no plainer.
 #[tactic(auto, using(crate::proofs::Reading::reading), unfolding(crate::specs::Counts::count_of))]
 fn add_pieces(numbers: &[u16], i: usize, counts: &mut [u32])
     requires { (l : ℕ) × Sound numbers.now l i × RoomFor (way_at numbers.now l i) counts.old }
