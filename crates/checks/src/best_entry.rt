@@ -1,5 +1,5 @@
 // What the entry that leaves a best way refuses, and what it leaves.
-use crate::cases::{BOTH, NOISE, ONE, THREE, refuses};
+use crate::cases::{BOTH, NOISE, ONE, THREE, not_refused};
 use best::saw;
 use saw::Done;
 use std::test::Fail;
@@ -7,7 +7,7 @@ use ways::{Pieces, Sheet, judge};
 
 #[test]
 fn first_refusal_first(rt: HostRuntime) {
-    refuses(&rt, saw);
+    assert_eq!(rt; not_refused(saw), None);
 }
 
 // A sheet and its blade, pieces, what the sheet is worth, and how many nodes a best way has in which nothing is done in vain,

@@ -1,7 +1,6 @@
 // What more than one test tries: pieces, ways, and what an entry refuses.
 use saw::Done;
 use std::alloc::Global;
-use std::process::Abort;
 use std::test::Fail;
 use ways::{Pieces, Sheet};
 
@@ -147,17 +146,16 @@ const REFUSED: [Refused; 17] = [
     ((4, 3, 0), &[4], 0, 2),
 ];
 
-// The entry refuses so, and leaves the room as it was.
-pub(crate) fn refuses<F: Fn(u64, u64, u64, &[u32], &mut [u16]) -> Done>(rt: &impl Abort, saw: F)
+// The place of the first row that an entry doesn't refuse so, or after which the room isn't as it was.
+pub(crate) fn not_refused<F: Fn(u64, u64, u64, &[u32], &mut [u16]) -> Done>(saw: F) -> Option<usize>
     requires { F.IsAlwaysCallable saw }
 {
-    for ((wide, high, blade), pieces, len, number) in REFUSED {
+    for (k, ((wide, high, blade), pieces, len, number)) in REFUSED.into_iter().enumerate() {
         let mut room = [NOISE; ROOM];
-        assert!(rt; len <= ROOM);
-        assert_eq!(rt;
-            saw(wide, high, blade, pieces, &mut room[0..len]),
-            Done::Refused(number)
-        );
-        assert_eq!(rt; room, [NOISE; ROOM]);
+        let done = saw(wide, high, blade, pieces, &mut room[0..len.min(ROOM)]);
+        if done != Done::Refused(number) || room != [NOISE; ROOM] {
+            return Some(k);
+        }
     }
+    None
 }

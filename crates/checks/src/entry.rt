@@ -1,5 +1,5 @@
 // What the entry refuses, and what it leaves.
-use crate::cases::{NOISE, ONE, ROOM, refuses};
+use crate::cases::{NOISE, ONE, ROOM, not_refused};
 use saw::{Done, saw};
 
 // A sheet and its blade, pieces, and how many numbers of room are lent. Nothing is to be refused.
@@ -7,7 +7,7 @@ type Taken = ((u64, u64, u64), &'static [u32], usize);
 
 #[test]
 fn first_refusal_first(rt: HostRuntime) {
-    refuses(&rt, saw);
+    assert_eq!(rt; not_refused(saw), None);
     let taken: [Taken; 5] = [
         ((4, 3, 0), ONE, 96),
         ((4, 3, 60), ONE, 100),
