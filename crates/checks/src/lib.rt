@@ -12,4 +12,6 @@ mod judging;
 #[cfg(test)]
 mod sheets;
 #[cfg(test)]
+mod words;
+#[cfg(test)]
 mod yielded;

@@ -4,10 +4,10 @@ use Rattle.std.proofs.lemmas.Bool.{le-leb}
 use Rattle.std.proofs.lemmas.List.{get_or-take, length-take-le}
 use Rattle.ways.specs.Input.{pieces_in}
 use Rattle.ways.specs.Nodes.{node_at, node_ok}
-use Rattle.mudrieng.specs.Jobs.{pieces_named, numbers_of}
+use Rattle.mudrieng.specs.Jobs.{pieces_named, numbers_named}
 use Rattle.mudrieng.specs.declared.jobs.Named.{Named}
 
-pub pieces_numbered : (ns : List Named) → pieces_in (numbers_of ns) ≡ pieces_named ns
+pub pieces_numbered : (ns : List Named) → pieces_in (numbers_named ns) ≡ pieces_named ns
 unfolding pieces_in
 pieces_numbered [] = refl
 pieces_numbered (n ∷ ns) = ap (λ ps. n.piece ∷ ps) (pieces_numbered ns)

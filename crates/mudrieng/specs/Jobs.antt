@@ -9,6 +9,6 @@ pieces_named [] = []
 pieces_named (n ∷ ns) = n.piece ∷ pieces_named ns
 
 -- three numbers for each: its width, its height and its worth
-abbrev pub numbers_of : List Named → List ℕ
-numbers_of [] = []
-numbers_of (n ∷ ns) = n.piece.wide ∷ n.piece.high ∷ n.piece.worth ∷ numbers_of ns
+abbrev pub numbers_named : List Named → List ℕ
+numbers_named [] = []
+numbers_named (n ∷ ns) = n.piece.wide ∷ n.piece.high ∷ n.piece.worth ∷ numbers_named ns

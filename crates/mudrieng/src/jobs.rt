@@ -1,5 +1,5 @@
 // A job, read line by line.
-ghost use Rattle.mudrieng.specs.Jobs.{numbers_of};
+ghost use Rattle.mudrieng.specs.Jobs.{numbers_named};
 ghost use Rattle.std.specs.Prelude.{◌≡◌, IfOk, min};
 
 use crate::faults::Fault;
@@ -67,7 +67,7 @@ impl Job {
 
     // Three for each piece: wide, high, worth.
     pub(crate) fn numbers(&self, heap: Global) -> Result<Vec<u32>, AllocError>
-        ensures { IfOk result (λ numbers. numbers.items ≡ numbers_of self.now.pieces.items) }
+        ensures { IfOk result (λ numbers. numbers.items ≡ numbers_named self.now.pieces.items) }
     {
         let mut numbers = Vec::new(heap);
         for Named { piece, .. } in &self.pieces {

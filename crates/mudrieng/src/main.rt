@@ -1,7 +1,7 @@
 // Reads a job and prints what its sheet is worth, and a way to saw it.
 #![tactic(auto)]
 
-ghost use Rattle.mudrieng.specs.Jobs.{numbers_of, pieces_named};
+ghost use Rattle.mudrieng.specs.Jobs.{numbers_named, pieces_named};
 ghost use Rattle.std.specs.Prelude.{◌≡◌, ℕ, ◌*◌, ◌<◌, ◌≤◌, true, length, IfOk, None};
 ghost use Rattle.ways.specs.Nodes.{node_ok};
 ghost use Rattle.ways.specs.Refusals.{sheet_fault, pieces_fault};
@@ -91,7 +91,7 @@ fn left(sheet: Sheet, numbers: &[u32], room: &mut [u16]) -> usize
 // The sheet and the pieces of a job, or the first refusal that applies, wherever in the text it stands.
 #[tactic(auto, using(crate::proofs::Taking::pieces_numbered))]
 fn accepted(job: &Job, numbers: &[u32]) -> Result<(Sheet, Pieces), Refusal>
-    requires { numbers.now ≡ numbers_of job.now.pieces.items }
+    requires { numbers.now ≡ numbers_named job.now.pieces.items }
     ensures { IfOk result (λ s. (sheet_fault s.0.wide s.0.high s.0.blade ≡ None) × (pieces_fault numbers.now ≡ None) × (pieces_of s.1 ≡ pieces_named job.now.pieces.items)) }
 {
     let sheet = job

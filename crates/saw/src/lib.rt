@@ -10,8 +10,8 @@ ghost use Rattle.ways.specs.Sheet.{scrap};
 use nodes::{Chooser, write_way};
 use ways::{Node, Pieces, Refusal, Sheet};
 
-/// What the entry answers: numbers alone, and no `Result`, since users in other languages were promised this enum. Whoever wants the
-/// refusal itself asks `Sheet::new` and `Pieces::try_from`, as the entry does.
+/// What the entry answers: numbers alone, and no `Result`, since its signature is fixed, for other languages to take up. Whoever
+/// wants the refusal itself asks `Sheet::new` and `Pieces::try_from`, as the entry does.
 #[derive(Clone, Copy, Debug, PartialEq, Eq)]
 pub enum Done {
     // How many nodes the way has, and what it is worth.
