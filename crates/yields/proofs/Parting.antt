@@ -37,7 +37,7 @@ all_sawn blade Level p y c =
     rw (← mul-add p.wide blade (p.high - (y + blade)), ← mul-add p.wide y (blade + (p.high - (y + blade))), ← whole) refl
 
 -- the areas of a part that is sawn are those of both parts, and of the cut
-areas_sawn :
+pub areas_sawn :
     (blade : ℕ) (ps : List Piece) (o : Orientation) (p : Part) (x : ℕ) (a b : Way) (f s r : Areas) →
     let near = with_side o p x in
     let far = beyond blade o p x in

@@ -53,5 +53,5 @@ pub fn areas(sheet: Sheet, pieces: &Pieces, numbers: &[u16]) -> Option<Areas>
     ensures { Answered (judged sheet.blade (pieces_of pieces.now) sheet.wide sheet.high numbers.now) (AreasAre sheet.blade (pieces_of pieces.now) sheet.wide sheet.high (way_of numbers.now)) result }
 {
     judge(sheet, pieces, numbers)?;
-    Some(part_areas(numbers, 0, sheet, sheet.whole()))
+    Some(part_areas(numbers, 0, &sheet, sheet.whole()))
 }

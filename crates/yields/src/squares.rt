@@ -18,10 +18,10 @@ pub struct Areas {
 // The areas of a part that can be sawn as node i says. A piece is just as wide and as high as its part. How large the part is, is
 // asked here and not in `Part`, whose users may ask of any size.
 #[tactic(auto, using(crate::proofs::Parting::parting), unfolding(crate::specs::Squares::blade_area, crate::specs::Squares::scrap_area, theorems::specs::Areas::area_of, ways::specs::Sheet::can))]
-pub(crate) fn part_areas(numbers: &[u16], i: usize, sheet: Sheet, part: Part) -> Areas
+pub(crate) fn part_areas(numbers: &[u16], i: usize, sheet: &Sheet, part: Part) -> Areas
     requires small { (part.wide ≤ 60) × (part.high ≤ 60) }
-    requires way { (ps : List Piece) × (l : ℕ) × Sawable sheet.blade ps numbers.now l i part }
-    ensures areas { (ps : List Piece) (l : ℕ) → Sawable sheet.blade ps numbers.now l i part → AreasAre sheet.blade ps part.wide part.high (way_at numbers.now l i) result }
+    requires way { (ps : List Piece) × (l : ℕ) × Sawable sheet.now.blade ps numbers.now l i part }
+    ensures areas { (ps : List Piece) (l : ℕ) → Sawable sheet.now.blade ps numbers.now l i part → AreasAre sheet.now.blade ps part.wide part.high (way_at numbers.now l i) result }
     ensures small { OneSheet result }
 {
     let Some(node) = Node::read(numbers, i) else {

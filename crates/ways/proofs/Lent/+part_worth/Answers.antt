@@ -20,17 +20,17 @@ returns-in-Scrap t c = found_scrap _ _ _ _ _ _ c.in_ok-node.ensures c.in-Scrap.i
 pub returns-in-Take : goal.returns-in-Take
 returns-in-Take t c =
     let s = c.args.self.now in
-    let found = found_take s.sheet.blade (pieces_of s.pieces.now) s.numbers.now c.args.i c.args.part _ c.in_ok-node.ensures c.in-Take.piece c.in-Take.is in
+    let found = found_take s.sheet.blade (pieces_of s.pieces.now) c.args.numbers.now c.args.i c.args.part _ c.in_ok-node.ensures c.in-Take.piece c.in-Take.is in
     λ l le. rw (c.fitting.ensures, c.as_slice.ensures) (found l le)
 
 -- a part that is sawn, if the cut may be made
 saw_split :
     (t : ℕ) (c : In-Saw t) → let s = c.args.self.now in let p = c.args.part in let cut = c.in-Saw.cut in let side = side_of cut.orientation p.wide p.high in
-    Split s.sheet.blade (pieces_of s.pieces.now) s.numbers.now (cut_ok s.sheet.blade side cut.at) c.args.i p
+    Split s.sheet.blade (pieces_of s.pieces.now) c.args.numbers.now (cut_ok s.sheet.blade side cut.at) c.args.i p
     cut.first (with_side cut.orientation p cut.at) cut.second (with_side cut.orientation p (side - (cut.at + s.sheet.blade)))
 saw_split t c =
     let s = c.args.self.now in
-    split_saw s.sheet.blade (pieces_of s.pieces.now) s.numbers.now c.args.i c.args.part _ c.in_ok-node.ensures c.if-not-names_later.ensures c.in-Saw.cut c.in-Saw.is
+    split_saw s.sheet.blade (pieces_of s.pieces.now) c.args.numbers.now c.args.i c.args.part _ c.in_ok-node.ensures c.if-not-names_later.ensures c.in-Saw.cut c.in-Saw.is
 
 pub returns-in_err-parts-in-Saw : goal.returns-in_err-parts-in-Saw
 returns-in_err-parts-in-Saw t c =

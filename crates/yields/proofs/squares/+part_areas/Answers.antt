@@ -5,7 +5,7 @@ use Rattle.yields.proofs.squares.+part_areas.Goals as goal
 use Rattle.yields.proofs.squares.+part_areas.Goals.{In-Some-sawn}
 
 -- the cut that is made, and both its parts
-parted_here : (t : ℕ) (c : In-Some-sawn t) → Parted c.args.sheet.blade c.args.numbers.now c.args.i c.args.part c.in-Saw.cut c.in-Some-sawn.parts
+parted_here : (t : ℕ) (c : In-Some-sawn t) → Parted c.args.sheet.now.blade c.args.numbers.now c.args.i c.args.part c.in-Saw.cut c.in-Some-sawn.parts
 parted_here t c = record { says = cc; cuts = rw c.blade-blade.ensures at c.in-Some-sawn.ensures }
 
 pub part_areas-first-requires : goal.part_areas-first-requires
