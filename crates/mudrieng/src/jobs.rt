@@ -40,21 +40,21 @@ impl Job {
             unread: None,
             lines: 0,
         };
-        for line in text.lines() {
-            if let Err(fault) = job.add(heap, line) {
+        for (k, line) in text.lines().enumerate() {
+            if let Err(fault) = job.add(heap, k, line) {
                 let Fault::Refused(refusal) = fault else {
                     return Err(fault);
                 };
                 job.unread = job.unread.or(Some(refusal));
             }
-            job.lines = job.lines.saturating_add(1);
+            job.lines = k.saturating_add(1);
         }
         Ok(job)
     }
 
-    // Adds what the next line says. It is refused where it can't be read, and where it is a second one for the sheet.
-    fn add(&mut self, heap: Global, line: &str) -> Result<(), Fault> {
-        let refusal = Refusal::Line(self.lines);
+    // Adds what line k says. It is refused where it can't be read, and where it is a second one for the sheet.
+    fn add(&mut self, heap: Global, k: usize, line: &str) -> Result<(), Fault> {
+        let refusal = Refusal::Line(k);
         match Line::try_from(line).map_err(|_| refusal)? {
             Line::Blank => {}
             Line::Sheet(_) if self.sheet.is_some() => return Err(Fault::Refused(refusal)),
