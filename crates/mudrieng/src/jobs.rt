@@ -145,13 +145,15 @@ impl<'a> Words<'a> {
         })
     }
 
-    // A run of digits; one that is too long for a machine word counts as the largest.
+    // A run of digits, however many noughts it begins with; what is too long for a machine word counts as the largest.
     fn number(&mut self) -> Result<u64, Unreadable> {
-        let word = self.word()?;
-        if !word.bytes().all(|b| b.is_ascii_digit()) {
-            return Err(Unreadable);
+        match self.word()?.trim_start_matches('0') {
+            "" => Ok(0),
+            digits if digits.bytes().all(|b| b.is_ascii_digit()) => {
+                Ok(digits.parse().unwrap_or(u64::MAX))
+            }
+            _ => Err(Unreadable),
         }
-        Ok(word.parse().unwrap_or(u64::MAX))
     }
 }
 

@@ -5,7 +5,7 @@ use std::test::Fail;
 // Texts, and what is printed, or the number and place of their refusal.
 #[test]
 fn first_number_first(rt: HostRuntime) -> Result<(), Fail> {
-    let rows: [(&str, Result<&str, (u64, usize)>); 24] = [
+    let rows: [(&str, Result<&str, (u64, usize)>); 28] = [
         ("sheet 10 6 blade 1", Ok("worth 0\nscrap\n")),
         (
             "\n# a board\r\n\tsheet  10 6\tblade 1 \r\n\npiece a 4 3 12\npiece a 4 3 12\n",
@@ -15,7 +15,9 @@ fn first_number_first(rt: HostRuntime) -> Result<(), Fail> {
             "sheet 007 60 blade 60\npiece x 99999999999999999999 1 100000\n",
             Ok("worth 0\nscrap\n"),
         ),
+        ("sheet 10 6 blade 00\n", Ok("worth 0\nscrap\n")),
         ("sheet 0 6 blade 1\n", Err((1, 0))),
+        ("sheet 00 6 blade 1\n", Err((1, 0))),
         ("sheet 99999999999999999999999999 6 blade 1\n", Err((1, 0))),
         ("sheet 10 61 blade 61\n", Err((1, 1))),
         ("sheet 10 6 blade 61\n", Err((1, 2))),
@@ -35,6 +37,8 @@ fn first_number_first(rt: HostRuntime) -> Result<(), Fail> {
         ("sheet 10 6 blade 1 2\n", Err((4, 0))),
         ("sheet 10 6 kerf 1\n", Err((4, 0))),
         ("sheet 10 -6 blade 1\n", Err((4, 0))),
+        ("sheet +10 6 blade 1\n", Err((4, 0))),
+        ("sheet 0+1 6 blade 1\n", Err((4, 0))),
         ("sheet 10 6 blade 1\npiece a 4 3\n", Err((4, 1))),
         ("sheet 10 6 blade 1\npiece 4 3 12\n", Err((4, 1))),
         // The seventeenth is one too many, whatever those after it are; an earlier one comes first.

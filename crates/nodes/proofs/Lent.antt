@@ -71,18 +71,22 @@ module _ (n m k₁ k₂ : ℕ) (xs ys zs es fs : List ℕ) (room : 4 + 4 * n ≤
         ∙ ap (λ (z : List ℕ). z ++ (fs ++ drop (4 + 4 * n + 4 * m) one)) kept ∙ ap (λ (z : List ℕ). (take 4 xs ++ es) ++ (fs ++ z)) rest ∙ simp append_assoc in
         ap (drop 4) whole ∙ drop_at (take 4 xs) ((es ++ fs) ++ drop (4 * (1 + n + m)) xs) 4 (length-take-le 4 xs (omega arith))
 
--- a cut's node in front of the nodes of its two parts, which were lent what was free one after the other
-pub cut_written :
-    (o : Orientation) (x i n m k₁ k₂ : ℕ) (xs ys zs ws : List ℕ) (a b : Way) → 4 + 4 * n ≤ length xs → n ≡ size a →
-    k₁ ≡ length xs - 4 → ys ≡ encode (i + 1) a ++ drop (4 * n) (take (length xs - 4) (drop 4 xs)) →
-    k₂ ≡ length (put_mid 4 k₁ xs ys) - (4 + 4 * n) →
-    zs ≡ encode (i + 1 + n) b ++ drop (4 * m) (take (length (put_mid 4 k₁ xs ys) - (4 + 4 * n)) (drop (4 + 4 * n) (put_mid 4 k₁ xs ys))) →
-    ws ≡ numbers_of (cut_node o i x n) ++ drop 4 (put_mid (4 + 4 * n) k₂ (put_mid 4 k₁ xs ys) zs) →
-    ws ≡ encode i (sawn o x a b) ++ drop (4 * (1 + n + m)) xs
-cut_written o x i n m k₁ k₂ xs ys zs ws a b room counted all₁ first all₂ second put =
-    let long : length (encode (i + 1) a) ≡ 4 * n = length_encode (i + 1) a ∙ (omega arith) in
-    let two = two_parts n m k₁ k₂ xs ys zs (encode (i + 1) a) (encode (i + 1 + n) b) room long all₁ first all₂ second in
-    put ∙ ap (λ (z : List ℕ). numbers_of (cut_node o i x n) ++ z) two
-    ∙ ap (λ (k : ℕ). numbers_of (cut_node o i x k) ++ ((encode (i + 1) a ++ encode (i + 1 + k) b) ++ drop (4 * (1 + n + m)) xs)) counted
-    ∙ sym (append_assoc (numbers_of (cut_node o i x (size a))) (encode (i + 1) a ++ encode (i + 1 + size a) b) (drop (4 * (1 + n + m)) xs))
-    ∙ ap (λ (z : List ℕ). z ++ drop (4 * (1 + n + m)) xs) (sym (encode_sawn o i x a b))
+-- a cut's node in front of the nodes of its two parts, which were lent what was free one after the other: from s₁ and from s₂ on.
+-- The cut names nodes j₁ and j₂. All four are in the code's own words, and shown to be the right ones
+module _ (o : Orientation) (x i n m : ℕ) (a b : Way) (counted : n ≡ size a) where
+  pub cut_written :
+      (s₁ s₂ j₁ j₂ k₁ k₂ : ℕ) (xs ys zs ws : List ℕ) → 4 + 4 * n ≤ length xs → s₁ ≡ 4 → s₂ ≡ 4 + 4 * n → j₁ ≡ i + 1 → j₂ ≡ i + 1 + n →
+      k₁ ≡ length xs - s₁ → ys ≡ encode (i + 1) a ++ drop (4 * n) (take (length xs - s₁) (drop s₁ xs)) →
+      k₂ ≡ length (put_mid s₁ k₁ xs ys) - s₂ →
+      zs ≡ encode (i + 1 + n) b ++ drop (4 * m) (take (length (put_mid s₁ k₁ xs ys) - s₂) (drop s₂ (put_mid s₁ k₁ xs ys))) →
+      ws ≡ numbers_of (Saw (record { orientation = o; at = x; first = j₁; second = j₂ })) ++ drop 4 (put_mid s₂ k₂ (put_mid s₁ k₁ xs ys) zs) →
+      ws ≡ encode i (sawn o x a b) ++ drop (4 * (1 + n + m)) xs
+  cut_written s₁ s₂ j₁ j₂ k₁ k₂ xs ys zs ws room from₁ from₂ named₁ named₂ all₁ first all₂ second put =
+      let long : length (encode (i + 1) a) ≡ 4 * n = length_encode (i + 1) a ∙ (omega arith) in
+      let first_is = rw from₁ at first in
+      let second_is = rw (from₁, from₂) at second in
+      let two = two_parts n m k₁ k₂ xs ys zs (encode (i + 1) a) (encode (i + 1 + n) b) room long (rw from₁ at all₁) first_is (rw (from₁, from₂) at all₂) second_is in
+      (rw (from₁, from₂, named₁, named₂) at put) ∙ ap (λ (z : List ℕ). numbers_of (cut_node o i x n) ++ z) two
+      ∙ ap (λ (k : ℕ). numbers_of (cut_node o i x k) ++ ((encode (i + 1) a ++ encode (i + 1 + k) b) ++ drop (4 * (1 + n + m)) xs)) counted
+      ∙ sym (append_assoc (numbers_of (cut_node o i x (size a))) (encode (i + 1) a ++ encode (i + 1 + size a) b) (drop (4 * (1 + n + m)) xs))
+      ∙ ap (λ (z : List ℕ). z ++ drop (4 * (1 + n + m)) xs) (sym (encode_sawn o i x a b))

@@ -52,6 +52,10 @@ module _ (blade : ℕ) (ps : List Piece) (xs : List ℕ) where
   abbrev pub Found : (r : Option ℕ) (i : ℕ) → Part → Type 0
   Found r i p = (l : ℕ) → length xs / 4 ≤ l + i → r ≡ worth_here l i p
 
+  -- also where the node's number is put in other words
+  pub found_as : (r : Option ℕ) (i j : ℕ) (p : Part) → i ≡ j → Found r i p → Found r j p
+  found_as r i j p same f = rw (← same) f
+
   -- where node i is there, at least one level is read
   deep : (r : Option ℕ) (i : ℕ) (p : Part) → i < n → ((l : ℕ) → n ≤ suc l + i → r ≡ worth_here (suc l) i p) → Found r i p
   deep r i p here f zero le = absurd (omega arith)

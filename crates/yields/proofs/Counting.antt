@@ -5,6 +5,7 @@ use Rattle.std.proofs.lemmas.Bool.{both_ways, cases_lt, cases_eq, eq-eqb, ne_eqb
 use Rattle.std.proofs.lemmas.Bool.Decides.{nat_tests}
 use Rattle.ways.specs.Adding.{Adds}
 use Rattle.ways.specs.Input.{pieces_ok}
+use Rattle.ways.specs.Nodes.{way_at}
 use Rattle.ways.specs.Parts.{sawn}
 use Rattle.ways.specs.Sheet.{Way, take, piece_fits, can}
 use Rattle.ways.specs.declared.input.Piece.{Piece}
@@ -13,7 +14,7 @@ use Rattle.ways.specs.declared.parts.Orientation.TheVariants.{Upright, Level}
 use Rattle.ways.proofs.Fits.{fits_ok, fits_past}
 use Rattle.ways.proofs.Within.{within, squares_split}
 use Rattle.yields.specs.Counts.{count_of}
-use Rattle.yields.specs.Walks.{RoomFor}
+use Rattle.yields.specs.Walks.{Sound, RoomFor}
 
 -- what was added to counts
 abbrev pub Added : Way → (before after : List ℕ) → Type 0
@@ -47,6 +48,14 @@ module _ (o : Orientation) (x : ℕ) (a p q : Way) (is : a ≡ sawn o x p q) whe
 
   pub added_both : (cs ds es : List ℕ) → Added p cs ds → Added q ds es → Added a cs es
   added_both cs ds es first second k = rw is (omega (arith, count_sawn o x k p q, first k, second k))
+
+-- a node's number in other words
+module _ (xs cs : List ℕ) (l i j : ℕ) (same : i ≡ j) where
+  pub asked_as : Sound xs l j → RoomFor (way_at xs l j) cs → (m : ℕ) × Sound xs m i × RoomFor (way_at xs m i) cs
+  asked_as sound room = (l, rw same sound, rw same room)
+
+  pub added_as : (ds : List ℕ) → (Sound xs l i → Added (way_at xs l i) cs ds) → Sound xs l j → Added (way_at xs l j) cs ds
+  added_as ds so = rw same at so
 
 one_of_it : (j : ℕ) → count_of j (take j) ≡ 1
 unfolding count_of

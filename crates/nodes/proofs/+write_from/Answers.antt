@@ -23,7 +23,7 @@ returns-in-Saw g t c =
       nodes = omega (arith, l.nodes, r.nodes, size_sawn cut.orientation cut.at l.way r.way);
       few = omega (arith, d.room, l.few, r.few);
       holds =
-          cut_written cut.orientation cut.at c.args.i c.write_from-near.result c.write_from-far.result _ _
+          cut_written cut.orientation cut.at c.args.i c.write_from-near.result c.write_from-far.result l.way r.way l.nodes _ _ _ _ _ _
           c.args.room.now c.write_from-near.new.room c.write_from-far.new.room c.put_node-in-Saw.new.room
-          l.way r.way (omega (arith, d.room, l.few)) l.nodes refl l.holds refl r.holds c.put_node-in-Saw.ensures;
+          (omega (arith, d.room, l.few)) (grind arith) (grind arith) (grind arith) (grind arith) refl l.holds refl r.holds c.put_node-in-Saw.ensures;
     }

@@ -1,6 +1,6 @@
 use Rattle.std.proofs.Common.{ℕ, ◌<◌, length, arith}
 use Rattle.yields.specs.Walks.{Sound}
-use Rattle.yields.proofs.Counting.{room_first, room_second, added_both, added_one, take_place}
+use Rattle.yields.proofs.Counting.{room_first, room_second, asked_as, added_as, added_both, added_one, take_place}
 use Rattle.yields.proofs.Reading.{Sawn, way_take, says_saw}
 use Rattle.yields.proofs.+add_pieces.Goals as goal
 use Rattle.yields.proofs.+add_pieces.Goals.{In-Take, In-Saw}
@@ -27,9 +27,10 @@ add_pieces-requires t c =
 pub add_pieces-requires-in-Saw : goal.add_pieces-requires-in-Saw
 add_pieces-requires-in-Saw t c =
     let s = sawn_here t (goal.at.add_pieces-requires-in-Saw t c).In-Saw _ c.requires.1 in
-    (omega (arith, s.later), (s.deep, s.second, room_second _ _ _ _ _ s.says _ _ c.add_pieces.auto.counts (c.add_pieces.ensures s.deep s.first) c.requires.2))
+    (grind (arith, s.later), asked_as _ _ _ _ _ (grind arith) s.second (room_second _ _ _ _ _ s.says _ _ c.add_pieces.auto.counts (c.add_pieces.ensures s.deep s.first) c.requires.2))
 
 pub returns-in-Saw : goal.returns-in-Saw
 returns-in-Saw t c =
     λ l sound. let s = sawn_here t (goal.at.returns-in-Saw t c).In-Saw l sound in
-    added_both _ _ _ _ _ s.says _ _ _ (c.add_pieces.ensures s.deep s.first) (c.add_pieces-in-Saw.ensures s.deep s.second)
+    added_both _ _ _ _ _ s.says _ _ _ (c.add_pieces.ensures s.deep s.first)
+    (added_as _ _ _ _ _ (grind arith) _ (c.add_pieces-in-Saw.ensures s.deep) s.second)

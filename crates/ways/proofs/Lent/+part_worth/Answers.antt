@@ -3,7 +3,7 @@ use Rattle.ways.specs.Parts.{side_of, with_side, CutsAt}
 use Rattle.ways.specs.Sheet.{cut_ok}
 use Rattle.ways.specs.View.{pieces_of}
 use Rattle.ways.proofs.Cuts.{first_smaller, second_smaller}
-use Rattle.ways.proofs.Judging.{Split, found_missing, found_unsound, found_scrap, found_take, found_small}
+use Rattle.ways.proofs.Judging.{Split, found_as, found_missing, found_unsound, found_scrap, found_take, found_small}
 use Rattle.ways.proofs.Judging.{split_saw, split_refused, split_first, split_second, split_sum}
 use Rattle.ways.proofs.Lent.+part_worth.Goals as goal
 use Rattle.ways.proofs.Lent.+part_worth.Goals.{In-Saw, In_ok-parts-in-Saw}
@@ -59,7 +59,8 @@ pub returns-in_err-second-in-Saw : goal.returns-in_err-second-in-Saw
 returns-in_err-second-in-Saw t c =
     let k = parts_here t (goal.at.returns-in_err-second-in-Saw t c).In_ok-parts-in-Saw in
     rw c.from_residual-in_err-second-in-Saw.ensures
-    (split_second _ _ _ _ _ _ _ _ _ _ (saw_split t (goal.at.returns-in_err-second-in-Saw t c).In-Saw) _ (rw k.first at c.in_ok-first-in-Saw.ensures) (rw k.second at c.in_err-second-in-Saw.ensures))
+    (split_second _ _ _ _ _ _ _ _ _ _ (saw_split t (goal.at.returns-in_err-second-in-Saw t c).In-Saw) _ (rw k.first at c.in_ok-first-in-Saw.ensures)
+    (found_as _ _ _ _ _ _ _ (grind arith) (rw k.second at c.in_err-second-in-Saw.ensures)))
 
 pub overflow_add-result : goal.overflow_add-result
 overflow_add-result t c =
@@ -74,4 +75,5 @@ overflow_add-result t c =
 pub returns-in_ok-second-in-Saw : goal.returns-in_ok-second-in-Saw
 returns-in_ok-second-in-Saw t c =
     let k = parts_here t (goal.at.returns-in_ok-second-in-Saw t c).In_ok-parts-in-Saw in
-    split_sum _ _ _ _ _ _ _ _ _ _ (saw_split t (goal.at.returns-in_ok-second-in-Saw t c).In-Saw) _ _ k.allowed (rw k.first at c.in_ok-first-in-Saw.ensures) (rw k.second at c.in_ok-second-in-Saw.ensures)
+    split_sum _ _ _ _ _ _ _ _ _ _ (saw_split t (goal.at.returns-in_ok-second-in-Saw t c).In-Saw) _ _ k.allowed (rw k.first at c.in_ok-first-in-Saw.ensures)
+    (found_as _ _ _ _ _ _ _ (grind arith) (rw k.second at c.in_ok-second-in-Saw.ensures))
